@@ -1,0 +1,47 @@
+-- "The eleven numbers": the names of the refusals. An accepted answer carries 0.
+-- Assumes nothing: these are definitions.
+use Prim.Native.Nat.{ℕ}
+
+-- 1: the list ends early
+abbrev pub endsEarly : ℕ
+endsEarly = 1
+
+-- 2: a byte that is not allowed there
+abbrev pub notAllowed : ℕ
+notAllowed = 2
+
+-- 3: a gap malformed or over 999
+abbrev pub badGap : ℕ
+badGap = 3
+
+-- 4: past month 2400
+abbrev pub pastLastMonth : ℕ
+pastLastMonth = 4
+
+-- 5: more than 256 leaps
+abbrev pub tooManyLeaps : ℕ
+tooManyLeaps = 5
+
+-- 6: something after the end
+abbrev pub afterEnd : ℕ
+afterEnd = 6
+
+-- 7: the output is shorter than the list
+abbrev pub outputShort : ℕ
+outputShort = 7
+
+-- 8: before 1972
+abbrev pub before1972 : ℕ
+before1972 = 8
+
+-- 9: no such instant
+abbrev pub noInstant : ℕ
+noInstant = 9
+
+-- 10: expired or not yet known
+abbrev pub notKnown : ℕ
+notKnown = 10
+
+-- 11: the schedule is not well formed
+abbrev pub notWellFormed : ℕ
+notWellFormed = 11

@@ -1,0 +1,34 @@
+// The eleven refusals by name. An accepted answer carries 0.
+
+// The list ends early.
+pub const ENDS_EARLY: u8 = 1;
+
+// A byte that is not allowed there.
+pub const NOT_ALLOWED: u8 = 2;
+
+// A gap malformed or over 999.
+pub const BAD_GAP: u8 = 3;
+
+// Past month 2400.
+pub const PAST_LAST_MONTH: u8 = 4;
+
+// More than 256 leaps.
+pub const TOO_MANY_LEAPS: u8 = 5;
+
+// Something after the end.
+pub const AFTER_END: u8 = 6;
+
+// The output is shorter than the list.
+pub const OUTPUT_SHORT: u8 = 7;
+
+// Before 1972.
+pub const BEFORE_1972: u8 = 8;
+
+// No such instant.
+pub const NO_INSTANT: u8 = 9;
+
+// Expired or not yet known.
+pub const NOT_KNOWN: u8 = 10;
+
+// The schedule is not well formed.
+pub const NOT_WELL_FORMED: u8 = 11;
