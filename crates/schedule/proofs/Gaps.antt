@@ -1,0 +1,56 @@
+-- The gaps of a schedule, and the parts of a well-formed one.
+-- Assumes nothing.
+use mathlib.Core.Path.{_≡_, refl}
+use mathlib.Core.Bool.{true, false, and-eq-true-iff, _&&_}
+use mathlib.Core.List.{List, [], _∷_}
+use Prim.Native.Nat.{ℕ, _-_, _≤_, _<_}
+use native.Mathlib.Omega.{arith}
+use lib.ListN.{drop}
+use lib.Dec.{ltb, leb}
+use borrow.Author.Tests.{ltb-true, leb-true}
+use Rattle.schedule.specs.declared.Leap.{Leap}
+use Rattle.schedule.specs.declared.Schedule.{Schedule}
+use Rattle.schedule.specs.Schedule.{blankSchedule, leapsOf, gapFits, gapsFit, allUnused, wellFormed}
+
+-- a gap that fits
+pub fits-lt : (a b : ℕ) → gapFits a b ≡ true → a < b
+fits-lt a b f = ltb-true a b (and-eq-true-iff (ltb a b) (leb (b - a) 999) .0 f .0)
+
+pub fits-le : (a b : ℕ) → gapFits a b ≡ true → b - a ≤ 999
+fits-le a b f = leb-true (b - a) 999 (and-eq-true-iff (ltb a b) (leb (b - a) 999) .0 f .1)
+
+-- the gaps of a list with a first leap
+pub first : (from : ℕ) (l : Leap) (ls : List Leap) (expiry : ℕ) → gapsFit from (l ∷ ls) expiry ≡ true → gapFits from (l .month) ≡ true
+unfolding gapsFit
+first from l ls expiry f = and-eq-true-iff (gapFits from (l .month)) (gapsFit (l .month) ls expiry) .0 f .0
+
+pub later : (from : ℕ) (l : Leap) (ls : List Leap) (expiry : ℕ) → gapsFit from (l ∷ ls) expiry ≡ true → gapsFit (l .month) ls expiry ≡ true
+unfolding gapsFit
+later from l ls expiry f = and-eq-true-iff (gapFits from (l .month)) (gapsFit (l .month) ls expiry) .0 f .1
+
+pub before-end : (ls : List Leap) (from expiry : ℕ) → gapsFit from ls expiry ≡ true → from < expiry
+unfolding gapsFit
+before-end [] from expiry f = fits-lt from expiry f
+before-end (l ∷ ls) from expiry f =
+    let a : from < l .month = fits-lt from (l .month) (first from l ls expiry f) in
+    let b : l .month < expiry = before-end ls (l .month) expiry (later from l ls expiry f) in
+    omega arith
+
+-- the parts of a well-formed schedule
+pub record Parts (s : Schedule) : Type 0 where
+  pub room : s .count ≤ 256
+  pub end : s .expiry ≤ 2400
+  pub gaps : gapsFit 0 (leapsOf s) (s .expiry) ≡ true
+  pub rest : allUnused (drop (s .count) (s .leaps)) ≡ true
+
+pub parts : (s : Schedule) → wellFormed s ≡ true → Parts s
+parts s w =
+    let w₁ = and-eq-true-iff (leb (s .count) 256 && leb (s .expiry) 2400 && gapsFit 0 (leapsOf s) (s .expiry)) (allUnused (drop (s .count) (s .leaps))) .0 w in
+    let w₂ = and-eq-true-iff (leb (s .count) 256 && leb (s .expiry) 2400) (gapsFit 0 (leapsOf s) (s .expiry)) .0 (w₁ .0) in
+    let w₃ = and-eq-true-iff (leb (s .count) 256) (leb (s .expiry) 2400) .0 (w₂ .0) in
+    record { room = leb-true _ _ (w₃ .0); end = leb-true _ _ (w₃ .1); gaps = w₂ .1; rest = w₁ .1 }
+
+-- the blank schedule is not well formed
+pub blank-refused : wellFormed blankSchedule ≡ false
+unfolding gapsFit allUnused
+blank-refused = refl

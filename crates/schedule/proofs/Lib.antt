@@ -1,0 +1,9 @@
+-- The laws of schedules that the crates above cite.
+pub mod Cases
+pub mod Gaps
+pub mod Formed
+pub mod Adds
+pub mod Sound
+pub mod Words
+pub mod Answers
+pub mod Extension

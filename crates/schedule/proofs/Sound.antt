@@ -1,0 +1,76 @@
+-- Schedules that are made leap by leap from the blank one: what holds of them on the way, and that they are well formed at the end.
+-- Assumes nothing.
+use mathlib.Core.Path.{_≡_, refl, sym, ap, _∙_}
+use mathlib.Core.Bool.{Bool, true, false, and-eq-true-iff, _&&_}
+use mathlib.Core.List.{List, [], _∷_, _++_}
+use Prim.Native.Nat.{ℕ, suc, _+_, _≤_, _<_}
+use native.Mathlib.Numerals.{add-one}
+use native.Mathlib.Nat.{add-sub-cancel-left, lt-suc-self}
+use native.Mathlib.Omega.{arith}
+use lib.ListN.{length, getD, drop, take, set, length-set}
+use lib.Seq.{drop-cons, take-suc-set, drop-set-lt}
+use borrow.Author.Tests.{lt-ltb, le-leb}
+use Rattle.schedule.specs.declared.Sign.{Sign}
+use Rattle.schedule.specs.declared.Leap.{Leap}
+use Rattle.schedule.specs.declared.Schedule.{Schedule}
+use Rattle.schedule.specs.declared.Reading.{Reading}
+use Rattle.schedule.specs.Schedule.{noLeap, blankSchedule, leapsOf, gapFits, gapsFit, isUnused, allUnused, wellFormed}
+use Rattle.schedule.specs.Answers.{withLeap, refusal, accepted}
+
+-- a reading that is accepted has a well-formed schedule
+pub record Formed (r : Reading) : Type 0 where
+  pub formed : r .number ≡ 0 → wellFormed (r .schedule) ≡ true
+
+pub never : (n p : ℕ) → 0 < n → Formed (refusal n p)
+never n p h = record { formed = λ e. absurd (omega arith) }
+
+and-assoc : (a b c : Bool) → (a && b && c) ≡ (a && (b && c))
+and-assoc true b c = refl
+and-assoc false b c = refl
+
+-- one leap more at the end
+gaps-snoc : (ls : List Leap) (from expiry : ℕ) (x : Leap) → gapsFit from (ls ++ (x ∷ [])) expiry ≡ (gapsFit from ls (x .month) && gapFits (x .month) expiry)
+unfolding gapsFit
+gaps-snoc [] from expiry x = refl
+gaps-snoc (l ∷ ls) from expiry x = rw (gaps-snoc ls (l .month) expiry x) (sym (and-assoc (gapFits from (l .month)) _ _))
+
+-- what holds of the schedule so far: its leaps end at the month `total`
+pub record Sound (total : ℕ) (s : Schedule) : Type 0 where
+  full : length (s .leaps) ≡ 256
+  room : s .count ≤ 256
+  gaps : (expiry : ℕ) → gapsFit 0 (leapsOf s) expiry ≡ gapFits total expiry
+  rest : allUnused (drop (s .count) (s .leaps)) ≡ true
+
+-- a gap of 1 to 999 fits
+fits : (total gap : ℕ) → 0 < gap → gap ≤ 999 → gapFits total (total + gap) ≡ true
+fits total gap p q = simp (lt-ltb total (total + gap) (omega arith), add-sub-cancel-left total gap, le-leb gap 999 q)
+
+module _ (s : Schedule) (inside : s .count < length (s .leaps)) (m : ℕ) (k : Sign) where
+  pub leaps-with : leapsOf (withLeap s m k) ≡ leapsOf s ++ (record { month = m; sign = k } ∷ [])
+  leaps-with = rw (add-one, take-suc-set (s .leaps) (s .count) (record { month = m; sign = k }) inside)
+
+  rest-with : allUnused (drop (s .count) (s .leaps)) ≡ true → allUnused (drop (s .count + 1) (set (s .leaps) (s .count) (record { month = m; sign = k }))) ≡ true
+  unfolding allUnused
+  rest-with r =
+      let u : (isUnused (getD (s .leaps) (s .count) noLeap) && allUnused (drop (suc (s .count)) (s .leaps))) ≡ true = rw (drop-cons (s .leaps) (s .count) noLeap inside) at r in
+      rw (add-one, drop-set-lt (suc (s .count)) (s .leaps) (s .count) (record { month = m; sign = k }) (lt-suc-self (s .count)))
+      (and-eq-true-iff (isUnused (getD (s .leaps) (s .count) noLeap)) (allUnused (drop (suc (s .count)) (s .leaps))) .0 u .1)
+
+pub sound-leap : (total gap : ℕ) (s : Schedule) (k : Sign) → 0 < gap → gap ≤ 999 → s .count < 256 → Sound total s → Sound (total + gap) (withLeap s (total + gap) k)
+sound-leap total gap s k p q h d =
+    let inside : s .count < length (s .leaps) = omega (arith, d .full) in
+    record {
+      full = length-set (s .leaps) (s .count) _ ∙ d .full;
+      room = omega arith;
+      gaps = λ e. ap (λ (l : List Leap). gapsFit 0 l e) (leaps-with s inside (total + gap) k)
+          ∙ (gaps-snoc (leapsOf s) 0 e (record { month = total + gap; sign = k }) ∙ simp (d .gaps (total + gap), fits total gap p q));
+      rest = rest-with s inside (total + gap) k (d .rest);
+    }
+
+pub sound-end : (total gap : ℕ) (s : Schedule) → 0 < gap → gap ≤ 999 → total + gap ≤ 2400 → Sound total s → Formed (accepted s (total + gap))
+sound-end total gap s p q h d =
+    record { formed = λ e. simp (le-leb (s .count) 256 (d .room), le-leb (total + gap) 2400 h, d .gaps (total + gap), fits total gap p q, d .rest) }
+
+pub blank-sound : Sound 0 blankSchedule
+unfolding gapsFit allUnused
+blank-sound = record { full = refl; room = omega arith; gaps = λ e. refl; rest = refl }

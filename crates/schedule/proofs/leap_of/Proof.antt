@@ -1,0 +1,15 @@
+-- `schedule::leap_of` meets its contract. Assumes nothing.
+use borrow.Author.Tests.{eq-eqb, ne-eqb}
+use Rattle.schedule.proofs.leap_of.Statement.{statement}
+use Rattle.schedule.proofs.leap_of.Tie as tie
+use Rattle.schedule.proofs.leap_of.Reads as reads
+use Rattle.schedule.proofs.leap_of.Lts as lts
+
+returns : tie.Need-returns
+returns c = simp (eq-eqb _ _ (c .if1 .taken))
+
+returns-2 : tie.Need-returns-2
+returns-2 c = simp (ne-eqb _ _ (c .if1 .left))
+
+pub leap-of-spec : {M : Type 1} → statement M
+leap-of-spec = tie.close (tie.spec returns returns-2)

@@ -1,0 +1,36 @@
+-- What readers and writers answer.
+-- Assumes nothing: these are definitions.
+use Prim.Native.Nat.{ℕ, _+_}
+use mathlib.Core.Bool.{_&&_, cond}
+use mathlib.Core.List.{List, _++_}
+use lib.Dec.{leb}
+use lib.ListN.{length, drop, set}
+use Rattle.refusals.specs.Refusals.{outputShort, notWellFormed}
+use Rattle.schedule.specs.declared.Sign.{Sign}
+use Rattle.schedule.specs.declared.Schedule.{Schedule}
+use Rattle.schedule.specs.declared.Reading.{Reading}
+use Rattle.schedule.specs.declared.Writing.{Writing}
+use Rattle.schedule.specs.Schedule.{blankSchedule, wellFormed}
+
+-- a reader that refuses returns the number, the place and the blank schedule
+abbrev pub refusal : ℕ → ℕ → Reading
+refusal n p = record { number = n; place = p; schedule = blankSchedule }
+
+-- a reader that accepts returns number 0, place 0 and the schedule: here the leaps read so far, and the expiry
+abbrev pub accepted : Schedule → ℕ → Reading
+accepted s expiry = record { number = 0; place = 0; schedule = record { leaps = s .leaps; count = s .count; expiry = expiry } }
+
+-- one leap more, in the first place that is not in use
+abbrev pub withLeap : Schedule → ℕ → Sign → Schedule
+withLeap s m g = record { leaps = set (s .leaps) (s .count) (record { month = m; sign = g }); count = s .count + 1; expiry = s .expiry }
+
+-- what a writer answers whose list of a schedule is `bytes`: refusal 11, then 7, else the count of bytes
+unfoldable pub writing : Schedule → List ℕ → ℕ → Writing
+writing s bytes room =
+    cond (wellFormed s)
+    (cond (leb (length bytes) room) (record { number = 0; count = length bytes }) (record { number = outputShort; count = 0 }))
+    (record { number = notWellFormed; count = 0 })
+
+-- what the output then holds: the list and, beyond it, what it held; what it held where the writer refuses
+unfoldable pub written : Schedule → List ℕ → List ℕ → List ℕ
+written s bytes out = cond (wellFormed s && leb (length bytes) (length out)) (bytes ++ drop (length bytes) out) out

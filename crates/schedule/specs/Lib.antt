@@ -1,0 +1,4 @@
+pub mod Schedule
+pub mod Extends
+pub mod Words
+pub mod Answers

@@ -1,0 +1,64 @@
+-- The schedule: its limits, the leaps in use, the blank schedule, and when a schedule is well formed.
+-- Assumes nothing: these are definitions.
+use Prim.Native.Nat.{ℕ, _-_}
+use mathlib.Core.Bool.{Bool, true, false, _&&_}
+use mathlib.Core.List.{List, [], _∷_}
+use lib.ListN.{take, drop, replicate}
+use lib.Dec.{ltb, leb, eqb}
+use Rattle.schedule.specs.declared.Sign.{Sign}
+use Rattle.schedule.specs.declared.Sign.the-variants.{Positive, Negative}
+use Rattle.schedule.specs.declared.Leap.{Leap}
+use Rattle.schedule.specs.declared.Schedule.{Schedule}
+
+-- a schedule has at most 256 leaps
+abbrev pub maxLeaps : ℕ
+maxLeaps = 256
+
+-- a gap is at most 999 months
+abbrev pub maxGap : ℕ
+maxGap = 999
+
+-- month numbers run to 2400
+abbrev pub lastMonth : ℕ
+lastMonth = 2400
+
+-- an unused place holds month 0 and a positive sign
+abbrev pub noLeap : Leap
+noLeap = record { month = 0; sign = Positive }
+
+-- "blank": the schedule with no leaps and expiry 0
+abbrev pub blankSchedule : Schedule
+blankSchedule = record { leaps = replicate maxLeaps noLeap; count = 0; expiry = 0 }
+
+-- the leaps in use: the first `count` places (all 256 where more are claimed, which is not well formed)
+abbrev pub leapsOf : Schedule → List Leap
+leapsOf s = take (s .count) (s .leaps)
+
+-- a gap from one month to a later one is 1 to 999
+abbrev pub gapFits : ℕ → ℕ → Bool
+gapFits from to = ltb from to && leb (to - from) maxGap
+
+-- every gap fits: to the first leap, between leaps, and from the last leap to the expiry; so the leap months strictly rise
+unfoldable pub gapsFit : ℕ → List Leap → ℕ → Bool
+gapsFit from [] expiry = gapFits from expiry
+gapsFit from (l ∷ ls) expiry = gapFits from (l .month) && gapsFit (l .month) ls expiry
+
+abbrev pub isPositive : Sign → Bool
+isPositive Positive = true
+isPositive Negative = false
+
+-- a place that holds month 0 and a positive sign
+abbrev pub isUnused : Leap → Bool
+isUnused l = eqb (l .month) 0 && isPositive (l .sign)
+
+unfoldable pub allUnused : List Leap → Bool
+allUnused [] = true
+allUnused (l ∷ ls) = isUnused l && allUnused ls
+
+-- "well formed": at most 256 leaps, the expiry at most month 2400, every gap from month 0 on 1 to 999, the other places unused
+abbrev pub wellFormed : Schedule → Bool
+wellFormed s =
+    leb (s .count) maxLeaps
+    && leb (s .expiry) lastMonth
+    && gapsFit 0 (leapsOf s) (s .expiry)
+    && allUnused (drop (s .count) (s .leaps))

@@ -1,0 +1,292 @@
+// A schedule of leap seconds, by value, and what readers and writers of it answer.
+ghost use mathlib.Core.Path.{_≡_};
+ghost use Prim.Native.Nat.{_≤_};
+ghost use lib.ListN.{length, drop};
+ghost use Rattle.schedule.specs.Schedule.{blankSchedule, leapsOf, gapFits, gapsFit, isUnused, allUnused, wellFormed};
+ghost use Rattle.schedule.specs.Extends.{sameSign, sameLeap, extends};
+ghost use Rattle.schedule.specs.Words.{leapOf, wordOf, fromWords};
+ghost use Rattle.schedule.specs.Answers.{refusal, accepted};
+
+// A schedule has at most 256 leaps.
+pub const MAX_LEAPS: usize = 256;
+
+// A gap is at most 999 months.
+pub const MAX_GAP: u32 = 999;
+
+// Month numbers run to 2400.
+pub const LAST_MONTH: u32 = 2400;
+
+pub enum Sign {
+    Positive,
+    Negative,
+}
+
+// A leap second at the end of the day before month `month` starts.
+pub struct Leap {
+    pub month: u16,
+    pub sign: Sign,
+}
+
+// The first `count` of `leaps` are in use; the others hold month 0 and a positive sign. From month `expiry` on nothing is known.
+pub struct Schedule {
+    pub leaps: [Leap; 256],
+    pub count: usize,
+    pub expiry: u32,
+}
+
+// What a reader answers: number 0, place 0 and the schedule, or a refusal's number, its place and the blank schedule.
+pub struct Reading {
+    pub number: u8,
+    pub place: usize,
+    pub schedule: Schedule,
+}
+
+// What a writer answers: number 0 and the count of bytes written, or a refusal's number and 0.
+pub struct Writing {
+    pub number: u8,
+    pub count: usize,
+}
+
+// The blank schedule: no leaps and expiry 0. It is not well formed.
+pub fn blank() -> Schedule
+    ensures { λ r. ⌜ r ≡ blankSchedule ⌝ }
+{
+    let none = Leap {
+        month: 0,
+        sign: Sign::Positive,
+    };
+    let leaps = [none; 256];
+    Schedule {
+        leaps,
+        count: 0,
+        expiry: 0,
+    }
+}
+
+fn wide(x: u16) -> u32
+    ensures { λ r. ⌜ r ≡ x ⌝ }
+{
+    x as u32
+}
+
+// A leap as one number, for readers that collect leaps: twice its month, and one more where it is negative. So 0 is an unused place; and
+// it is given for a month past 2400, at which no list has a leap.
+pub fn leap_word(month: u32, sign: Sign) -> u16
+    ensures { λ r. ⌜ r ≡ wordOf month sign ⌝ }
+{
+    if LAST_MONTH < month {
+        return 0;
+    }
+    match sign {
+        Sign::Positive => (month * 2) as u16,
+        Sign::Negative => (month * 2 + 1) as u16,
+    }
+}
+
+// The leap that a number stands for.
+fn leap_of(word: u16) -> Leap
+    ensures { λ r. ⌜ r ≡ leapOf word ⌝ }
+{
+    let month = word / 2;
+    if word % 2 == 0 {
+        return Leap {
+            month,
+            sign: Sign::Positive,
+        };
+    }
+    Leap {
+        month,
+        sign: Sign::Negative,
+    }
+}
+
+// The schedule whose places are given as numbers.
+pub fn from_words(words: [u16; 256], count: usize, expiry: u32) -> Schedule
+    ensures { λ r. ⌜ r ≡ fromWords words count expiry ⌝ }
+{
+    let none = Leap {
+        month: 0,
+        sign: Sign::Positive,
+    };
+    let mut leaps = [none; 256];
+    let mut i: usize = 0;
+    while i < 256 {
+        leaps[i] = leap_of(words[i]);
+        i += 1;
+    }
+    Schedule {
+        leaps,
+        count,
+        expiry,
+    }
+}
+
+// A reader's refusal.
+pub fn refuse(number: u8, place: usize) -> Reading
+    ensures { λ r. ⌜ r ≡ refusal number place ⌝ }
+{
+    Reading {
+        number,
+        place,
+        schedule: blank(),
+    }
+}
+
+// A reader's answer where a list is taken, from the leaps as numbers.
+pub fn accept(words: [u16; 256], count: usize, expiry: u32) -> Reading
+    ensures { λ r. ⌜ r ≡ accepted (fromWords words count 0) expiry ⌝ }
+{
+    Reading {
+        number: 0,
+        place: 0,
+        schedule: from_words(words, count, expiry),
+    }
+}
+
+// Whether a gap from a month to another is 1 to 999.
+fn gap_fits(from: u32, to: u32) -> bool
+    ensures { λ r. ⌜ r ≡ gapFits from to ⌝ }
+{
+    if from < to {
+        to - from <= MAX_GAP
+    } else {
+        false
+    }
+}
+
+// Whether a place holds month 0 and a positive sign.
+fn is_unused(l: Leap) -> bool
+    ensures { λ r. ⌜ r ≡ isUnused l ⌝ }
+{
+    let month = l.month;
+    if month == 0 {
+        let sign = l.sign;
+        match sign {
+            Sign::Positive => true,
+            Sign::Negative => false,
+        }
+    } else {
+        false
+    }
+}
+
+// Whether every gap is 1 to 999 months, from month 0 over the leaps in use to the expiry.
+fn gaps_fit(s: Schedule) -> bool
+    requires { ⌜ s .count ≤ 256 ⌝ }
+    ensures { λ r. ⌜ r ≡ gapsFit 0 (leapsOf s) (s .expiry) ⌝ }
+{
+    let count = s.count;
+    let mut last: u32 = 0;
+    let mut i: usize = 0;
+    while i < count {
+        let month = wide(s.leaps[i].month);
+        if gap_fits(last, month) {
+            last = month;
+            i += 1;
+        } else {
+            return false;
+        }
+    }
+    gap_fits(last, s.expiry)
+}
+
+// Whether the places that are not in use hold month 0 and a positive sign.
+fn rest_unused(s: Schedule) -> bool
+    requires { ⌜ s .count ≤ 256 ⌝ }
+    ensures { λ r. ⌜ r ≡ allUnused (drop (s .count) (s .leaps)) ⌝ }
+{
+    let mut i = s.count;
+    while i < 256 {
+        let l = s.leaps[i];
+        if is_unused(l) {
+            i += 1;
+        } else {
+            return false;
+        }
+    }
+    true
+}
+
+// Whether a schedule is well formed; any value at all may be given.
+pub fn is_well_formed(s: Schedule) -> bool
+    ensures { λ r. ⌜ r ≡ wellFormed s ⌝ }
+{
+    let count = s.count;
+    if MAX_LEAPS < count {
+        return false;
+    }
+    let expiry = s.expiry;
+    if LAST_MONTH < expiry {
+        return false;
+    }
+    if gaps_fit(s) { rest_unused(s) } else { false }
+}
+
+// Whether two signs are equal.
+fn same_sign(a: Sign, b: Sign) -> bool
+    ensures { λ r. ⌜ r ≡ sameSign a b ⌝ }
+{
+    match a {
+        Sign::Positive => match b {
+            Sign::Positive => true,
+            Sign::Negative => false,
+        },
+        Sign::Negative => match b {
+            Sign::Positive => false,
+            Sign::Negative => true,
+        },
+    }
+}
+
+// Whether two leaps are equal in month and sign.
+fn same_leap(a: Leap, b: Leap) -> bool
+    ensures { λ r. ⌜ r ≡ sameLeap a b ⌝ }
+{
+    if a.month == b.month {
+        let x = a.sign;
+        let y = b.sign;
+        same_sign(x, y)
+    } else {
+        false
+    }
+}
+
+// How many places are in use: all 256 where more are claimed.
+fn in_use(s: Schedule) -> usize
+    ensures { λ r. ⌜ (r ≡ length (leapsOf s)) × (r ≤ 256) ⌝ }
+{
+    let count = s.count;
+    if count < MAX_LEAPS { count } else { MAX_LEAPS }
+}
+
+// Whether a list extends another; any values at all may be given.
+pub fn extends(longer: Schedule, shorter: Schedule) -> bool
+    ensures { λ r. ⌜ r ≡ extends longer shorter ⌝ }
+{
+    let expiry = shorter.expiry;
+    if longer.expiry < expiry {
+        return false;
+    }
+    let n = in_use(longer);
+    let m = in_use(shorter);
+    let mut i: usize = 0;
+    let mut j: usize = 0;
+    while i < n {
+        let l = longer.leaps[i];
+        if expiry <= wide(l.month) {
+            i += 1;
+        } else {
+            if m <= j {
+                return false;
+            }
+            let k = shorter.leaps[j];
+            if same_leap(l, k) {
+                i += 1;
+                j += 1;
+            } else {
+                return false;
+            }
+        }
+    }
+    j == m
+}
