@@ -63,7 +63,8 @@ pub fn blank() -> Schedule
     }
 }
 
-fn wide(x: u16) -> u32
+// A month as a wider number.
+pub fn wide(x: u16) -> u32
     ensures { λ r. ⌜ r ≡ x ⌝ }
 {
     x as u32

@@ -1,0 +1,9 @@
+-- The laws of the text list.
+pub mod Cases
+pub mod Digits
+pub mod Follow
+pub mod Laws
+pub mod Steps
+pub mod Sound
+pub mod Back
+pub mod Spelling

@@ -1,0 +1,47 @@
+-- What the private functions of the reader promise to each other. No promise to a caller rests on reading this file.
+-- Assumes nothing: these are definitions.
+use Prim.Native.Nat.{ℕ, _≤_, _<_}
+use mathlib.Core.Path.{_≡_}
+use mathlib.Core.Bool.{false}
+use mathlib.Core.List.{List}
+use lib.ListN.{length, getD, drop}
+use Rattle.refusals.specs.Refusals.{endsEarly, notAllowed, badGap}
+use Rattle.schedule.specs.declared.Schedule.{Schedule}
+use Rattle.schedule.specs.declared.Reading.{Reading}
+use Rattle.schedule.specs.Schedule.{maxGap}
+use Rattle.schedule.specs.Words.{fromWords}
+use Rattle.schedule.specs.Answers.{refusal, accepted}
+use Rattle.text.specs.declared.Cursor.{Cursor}
+use Rattle.text.specs.declared.Gap.{Gap}
+use Rattle.text.specs.declared.Gap.the-variants.{Months, Ended, Misplaced, Malformed}
+use Rattle.text.specs.declared.End.{End}
+use Rattle.text.specs.declared.End.the-variants.{Expiry, Refusal}
+use Rattle.text.specs.Bytes.{isDigit}
+use Rattle.text.specs.Read.{readFrom}
+
+-- the reading that an end is, with the leaps kept as numbers
+abbrev pub readingOf : List ℕ → End → Reading
+readingOf words (Expiry n e) = accepted (fromWords words n 0) e
+readingOf words (Refusal n p) = refusal n p
+
+-- the number and the place of each case in which no gap was read; a gap that is there is no refusal
+abbrev pub stopped : Gap → End
+stopped (Ended c) = Refusal endsEarly (c .at)
+stopped (Misplaced c) = Refusal notAllowed (c .at)
+stopped (Malformed c) = Refusal badGap (c .at)
+stopped (Months g c) = Refusal 0 0
+
+-- a mark is due at a place: a gap of 1 to 999 was read, and no digit follows
+pub record Due (bytes : List ℕ) (place gap : ℕ) : Type 0 where
+  pub inside : place ≤ length bytes
+  pub some : 0 < gap
+  pub fits : gap ≤ maxGap
+  pub no-digit : place < length bytes → isDigit (getD bytes place 0) ≡ false
+
+-- what the gap that was read, or not read, at a place says of the reading from there, whatever was read before
+abbrev pub Scanned : List ℕ → ℕ → Gap → Type 0
+Scanned bytes place (Months g c) =
+    (place ≤ c .at) × (Due bytes (c .at) g × ((t : ℕ) (s : Schedule) → readFrom 0 place t s (drop place bytes) ≡ readFrom g (c .at) t s (drop (c .at) bytes)))
+Scanned bytes place (Ended c) = (t : ℕ) (s : Schedule) → readFrom 0 place t s (drop place bytes) ≡ refusal endsEarly (c .at)
+Scanned bytes place (Misplaced c) = (t : ℕ) (s : Schedule) → readFrom 0 place t s (drop place bytes) ≡ refusal notAllowed (c .at)
+Scanned bytes place (Malformed c) = (t : ℕ) (s : Schedule) → readFrom 0 place t s (drop place bytes) ≡ refusal badGap (c .at)

@@ -1,0 +1,210 @@
+//! The schedule as a caller hands it in (`Raw`) and as this program keeps it:
+//! a strip with one cell a month.
+
+use crate::calendar::LAST_MONTH;
+
+pub const MAX_LEAPS: usize = 256;
+pub const MAX_GAP: u32 = 999;
+
+/// 514 words that a caller may fill in any way.
+#[derive(Clone, Debug, PartialEq, Eq)]
+pub struct Raw {
+    /// Month and `negative` word of each place.
+    pub words: [(u32, u32); MAX_LEAPS],
+    pub count: u32,
+    pub expiry: u32,
+}
+
+impl Raw {
+    /// No leaps, expiry 0: what a refusing reader returns.
+    pub const fn blank() -> Raw {
+        Raw {
+            words: [(0, 0); MAX_LEAPS],
+            count: 0,
+            expiry: 0,
+        }
+    }
+
+    /// From month0, negative0, month1, negative1, .., count, expiry.
+    pub fn from_words(flat: &[u32; 514]) -> Raw {
+        let mut raw = Raw::blank();
+        for (place, pair) in raw.words.iter_mut().zip(flat.chunks_exact(2)) {
+            *place = (pair[0], pair[1]);
+        }
+        raw.count = flat[512];
+        raw.expiry = flat[513];
+        raw
+    }
+
+    /// The words in the order that `from_words` takes.
+    pub fn to_words(&self) -> [u32; 514] {
+        let mut flat = [0; 514];
+        for (pair, place) in flat.chunks_exact_mut(2).zip(self.words.iter()) {
+            pair[0] = place.0;
+            pair[1] = place.1;
+        }
+        flat[512] = self.count;
+        flat[513] = self.expiry;
+        flat
+    }
+}
+
+/// What a reader returns.
+#[derive(Clone, Debug, PartialEq, Eq)]
+pub struct Reading {
+    pub number: u8,
+    /// Where a refused reading stopped (a byte, or a nybble in a nybble list).
+    pub place: u64,
+    pub schedule: Raw,
+}
+
+impl Reading {
+    pub fn refused(number: u8, place: u64) -> Reading {
+        Reading {
+            number,
+            place,
+            schedule: Raw::blank(),
+        }
+    }
+
+    pub fn accepted(schedule: &Schedule) -> Reading {
+        Reading {
+            number: crate::refusal::ACCEPTED,
+            place: 0,
+            schedule: schedule.to_raw(),
+        }
+    }
+}
+
+/// What ends a gap.
+#[derive(Clone, Copy, Debug, PartialEq, Eq)]
+pub enum Mark {
+    Positive,
+    Negative,
+    Expiry,
+}
+
+/// A well-formed schedule as a strip of months: cell m is the leap at the start
+/// of month m (+1, -1 or 0), and the strip's length is the expiry month.
+#[derive(Clone, Debug, PartialEq, Eq)]
+pub struct Schedule {
+    strip: Vec<i8>,
+}
+
+impl Schedule {
+    /// The strip of a raw schedule, if that is well formed.
+    pub fn from_raw(raw: &Raw) -> Option<Schedule> {
+        let used = usize::try_from(raw.count).ok()?;
+        let leaps = raw.words.get(..used)?;
+        let unused = raw.words.get(used..)?;
+        if unused.iter().any(|&place| place != (0, 0)) {
+            return None;
+        }
+        if raw.expiry > LAST_MONTH {
+            return None;
+        }
+        let mut before = 0;
+        let ends = leaps.iter().map(|&(month, _)| month).chain([raw.expiry]);
+        for month in ends {
+            let gap = i64::from(month) - i64::from(before);
+            if gap < 1 || gap > i64::from(MAX_GAP) {
+                return None;
+            }
+            before = month;
+        }
+        // Every month now lies below the expiry.
+        let mut strip = vec![0; raw.expiry as usize];
+        for &(month, negative) in leaps {
+            strip[month as usize] = match negative {
+                0 => 1,
+                1 => -1,
+                _ => return None,
+            };
+        }
+        Some(Schedule { strip })
+    }
+
+    pub fn to_raw(&self) -> Raw {
+        let mut raw = Raw::blank();
+        for (month, &leap) in self.strip.iter().enumerate() {
+            if leap != 0 {
+                raw.words[raw.count as usize] = (month as u32, u32::from(leap < 0));
+                raw.count += 1;
+            }
+        }
+        raw.expiry = self.expiry();
+        raw
+    }
+
+    pub fn expiry(&self) -> u32 {
+        self.strip.len() as u32
+    }
+
+    /// The leap at the start of each month below the expiry.
+    pub fn strip(&self) -> &[i8] {
+        &self.strip
+    }
+
+    /// Every gap with the mark that ends it, the expiry last.
+    pub fn gaps(&self) -> Vec<(u32, Mark)> {
+        let mut gaps = Vec::new();
+        let mut run = 0;
+        for &leap in &self.strip {
+            match leap {
+                0 => {}
+                1 => gaps.push((std::mem::take(&mut run), Mark::Positive)),
+                _ => gaps.push((std::mem::take(&mut run), Mark::Negative)),
+            }
+            run += 1;
+        }
+        gaps.push((run, Mark::Expiry));
+        gaps
+    }
+}
+
+/// A strip being laid down by a reader, gap by gap. The reader has checked
+/// each gap against its own limits before it lays it.
+#[derive(Default)]
+pub struct Laying {
+    strip: Vec<i8>,
+    months: usize,
+    leaps: usize,
+}
+
+impl Laying {
+    pub fn months(&self) -> u32 {
+        self.months as u32
+    }
+
+    pub fn leaps(&self) -> usize {
+        self.leaps
+    }
+
+    /// A gap with a leap at its end.
+    pub fn leap(&mut self, gap: u32, leap: i8) {
+        self.months += gap as usize;
+        self.strip.resize(self.months, 0);
+        self.strip.push(leap);
+        self.leaps += 1;
+    }
+
+    /// The last gap.
+    pub fn expire(mut self, gap: u32) -> Schedule {
+        self.months += gap as usize;
+        self.strip.resize(self.months, 0);
+        Schedule { strip: self.strip }
+    }
+}
+
+pub fn well_formed(raw: &Raw) -> bool {
+    Schedule::from_raw(raw).is_some()
+}
+
+/// Whether the first list extends the second: the shorter strip is the start
+/// of the longer one. False if either list isn't well formed.
+pub fn extends(longer: &Raw, shorter: &Raw) -> bool {
+    match (Schedule::from_raw(longer), Schedule::from_raw(shorter)) {
+        (Some(l), Some(s)) => l.strip.starts_with(&s.strip),
+        _ => false,
+    }
+}
