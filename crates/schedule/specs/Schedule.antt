@@ -5,6 +5,7 @@ use mathlib.Core.Bool.{Bool, true, false, _&&_}
 use mathlib.Core.List.{List, [], _∷_}
 use lib.ListN.{take, drop, replicate}
 use lib.Dec.{ltb, leb, eqb}
+pub use Rattle.calendar.specs.Calendar.{lastMonth}
 use Rattle.schedule.specs.declared.Sign.{Sign}
 use Rattle.schedule.specs.declared.Sign.the-variants.{Positive, Negative}
 use Rattle.schedule.specs.declared.Leap.{Leap}
@@ -17,10 +18,6 @@ maxLeaps = 256
 -- a gap is at most 999 months
 abbrev pub maxGap : ℕ
 maxGap = 999
-
--- month numbers run to 2400
-abbrev pub lastMonth : ℕ
-lastMonth = 2400
 
 -- an unused place holds month 0 and a positive sign
 abbrev pub noLeap : Leap

@@ -13,8 +13,8 @@ pub const MAX_LEAPS: usize = 256;
 // A gap is at most 999 months.
 pub const MAX_GAP: u32 = 999;
 
-// Month numbers run to 2400.
-pub const LAST_MONTH: u32 = 2400;
+// Month numbers run to 2400; an expiry is no later.
+pub const LAST_MONTH: u32 = calendar::LAST_MONTH as u32;
 
 pub enum Sign {
     Positive,

@@ -1,0 +1,3 @@
+pub mod Greatest
+pub mod Gregorian
+pub mod Laws
