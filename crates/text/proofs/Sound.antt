@@ -42,7 +42,14 @@ sound (b ∷ bs) gap place total s q d =
     (λ _. never 5 place (omega arith)))
     (λ _. never 4 place (omega arith)))))
 
+pub read-formed : (bytes : List ℕ) → Formed (readText bytes)
+unfolding readText
+read-formed bytes = sound bytes 0 0 0 blankSchedule (omega arith) blank-sound
+
+-- a refused reading returns the blank schedule
+pub refused-blank : (bytes : List ℕ) → (readText bytes .number ≡ 0 → ⊥) → readText bytes .schedule ≡ blankSchedule
+refused-blank bytes = read-formed bytes .blank
+
 -- an accepted list's schedule is well formed
 pub accepted-well-formed : (bytes : List ℕ) → readText bytes .number ≡ 0 → wellFormed (readText bytes .schedule) ≡ true
-unfolding readText
-accepted-well-formed bytes e = sound bytes 0 0 0 blankSchedule (omega arith) blank-sound .formed e
+accepted-well-formed bytes = read-formed bytes .formed
