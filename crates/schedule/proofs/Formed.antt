@@ -40,7 +40,7 @@ module _ (s : Schedule) (full : length (s .leaps) ≡ 256) (i : ℕ) where
       rw (drop-of-length-le (leapsOf s) j)
 
   -- the leap at any place
-  at-place : i < 256 → drop i (s .leaps) ≡ getD (s .leaps) i noLeap ∷ drop (i + 1) (s .leaps)
+  pub at-place : i < 256 → drop i (s .leaps) ≡ getD (s .leaps) i noLeap ∷ drop (i + 1) (s .leaps)
   at-place h =
       let j : i < length (s .leaps) = omega arith in
       rw (add-one, drop-cons (s .leaps) i noLeap j)

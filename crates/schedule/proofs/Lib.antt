@@ -7,3 +7,4 @@ pub mod Sound
 pub mod Words
 pub mod Answers
 pub mod Extension
+pub mod Stores

@@ -2,25 +2,19 @@
 -- Assumes nothing.
 use mathlib.Core.Path.{_≡_, refl, sym, ap, _∙_}
 use mathlib.Core.Bool.{true}
-use mathlib.Core.List.{List, [], _∷_, _++_}
-use Prim.Native.Nat.{ℕ, suc, _+_, _-_, _≤_, _<_}
-use native.Mathlib.Numerals.{add-one}
-use native.Mathlib.Nat.{add-zero, add-suc, suc-add}
+use mathlib.Core.List.{List, _∷_, _++_}
+use Prim.Native.Nat.{ℕ, _+_, _-_, _≤_, _<_}
 use native.Mathlib.Omega.{arith}
-use lib.ListN.{length, getD, drop, set, length-append, drop-of-length-le}
+use lib.ListN.{length, getD, drop, length-append, drop-of-length-le}
 use lib.Seq.{sets, length-sets}
 use Rattle.schedule.specs.declared.Schedule.{Schedule}
 use Rattle.schedule.specs.Schedule.{noLeap, leapsOf, gapFits, gapsFit, wellFormed}
 use Rattle.schedule.proofs.Gaps.{fits-lt, fits-le, first, later, parts}
 use Rattle.schedule.proofs.Formed as formed
+use Rattle.schedule.proofs.Stores.{sets-append}
 use Rattle.text.specs.Bytes.{signByte, endByte}
 use Rattle.text.specs.Write.{digits, marked, textFrom, textOf}
 use Rattle.text.proofs.Digits.{few}
-
--- a run of stores in two parts
-pub sets-append : (xs l : List ℕ) (i : ℕ) (ys : List ℕ) → sets l i (xs ++ ys) ≡ sets (sets l i xs) (i + length xs) ys
-sets-append [] l i ys = rw add-zero
-sets-append (x ∷ xs) l i ys = sets-append xs _ (suc i) ys ∙ rw (suc-add, add-suc)
 
 -- a gap and its mark have 2 to 4 bytes
 pub marked-length : (g mark : ℕ) → length (marked g mark) ≡ length (digits g) + 1

@@ -7,7 +7,8 @@ use borrow.Author.Needs.{needs}
 use lib.ListN.{length}
 use lib.Seq.{length-sets}
 use Rattle.text.specs.Write.{digits, marked}
-use Rattle.text.proofs.Steps.{marked-length, sets-append}
+use Rattle.schedule.proofs.Stores.{sets-append}
+use Rattle.text.proofs.Steps.{marked-length}
 use Rattle.text.proofs.put_mark.Statement.{statement}
 use Rattle.text.proofs.put_mark.Tie as tie
 

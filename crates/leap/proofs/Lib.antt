@@ -1,0 +1,3 @@
+-- The laws of schedules as words.
+pub mod Meant
+pub mod Handed
