@@ -1,3 +1,4 @@
 -- The laws of schedules as words.
 pub mod Meant
+pub mod Stand
 pub mod Handed
