@@ -1,0 +1,5 @@
+-- The laws of the nybble list that no one function owns.
+mod Codes
+mod Reading
+pub mod Sound
+pub mod Early
