@@ -53,24 +53,29 @@ codes-lone : (n : ℕ) → 8 ≤ n → codesOf (n ∷ []) ≡ wide n lastG 1 ∷
 unfolding codesOf
 codes-lone n h = simp (le-ltb n 8 h)
 
--- every code has a month
-pub data AllSome : List Code → Type 0 where
-  none : AllSome []
-  some : {c : Code} {cs : List Code} → 0 < c .months → AllSome cs → AllSome (c ∷ cs)
+-- what holds of each element of a list
+pub data All {A : Type 0} (P : A → Type 0) : List A → Type 0 where
+  none : All P []
+  more : {x : A} {xs : List A} → P x → All P xs → All P (x ∷ xs)
 
-pub single-some : (n : ℕ) → 0 < single n .months
+-- every code has a month
+abbrev pub HasMonths : Code → Type 0
+HasMonths c = 0 < c .months
+
+pub single-some : (n : ℕ) → HasMonths (single n)
 unfolding single
 single-some n = omega arith
 
-pub wide-some : (n g z : ℕ) → 0 < wide n g z .months
+pub wide-some : (n g z : ℕ) → HasMonths (wide n g z)
 unfolding wide
 wide-some n g z = by-cond (λ (m : ℕ). 0 < m) (eqb (bitM n) 1) (λ b. omega arith) (λ b. omega arith)
 
-pub codes-some : (ns : List ℕ) → AllSome (codesOf ns)
+pub codes-some : (ns : List ℕ) → All HasMonths (codesOf ns)
 unfolding codesOf
 codes-some [] = none
-codes-some (n ∷ []) = by-cond AllSome (ltb n 8) (λ b. some (single-some n) none) (λ b. some (wide-some n lastG 1) none)
-codes-some (n ∷ g ∷ ns) = by-cond AllSome (ltb n 8) (λ b. some (single-some n) (codes-some (g ∷ ns))) (λ b. some (wide-some n g 2) (codes-some ns))
+codes-some (n ∷ []) = by-cond (All HasMonths) (ltb n 8) (λ b. more (single-some n) none) (λ b. more (wide-some n lastG 1) none)
+codes-some (n ∷ g ∷ ns) =
+    by-cond (All HasMonths) (ltb n 8) (λ b. more (single-some n) (codes-some (g ∷ ns))) (λ b. more (wide-some n g 2) (codes-some ns))
 
 -- and at most 96
 wide-few : (n g z : ℕ) → g < 16 → wide n g z .months ≤ 96

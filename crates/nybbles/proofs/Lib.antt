@@ -3,3 +3,8 @@ mod Codes
 mod Reading
 pub mod Sound
 pub mod Early
+mod Stored
+mod Filled
+mod Evened
+pub mod Division
+mod Packed

@@ -20,7 +20,7 @@ use Rattle.nybbles.specs.declared.code.Code.{Code}
 use Rattle.nybbles.specs.Codes.{nybbles, codesOf}
 use Rattle.nybbles.specs.Read.{State, fault, after, atEnd, readCodes, start, readNybbles}
 use Rattle.nybbles.specs.Inner.{Passes}
-use Rattle.nybbles.proofs.Codes.{AllSome, some, codes-some}
+use Rattle.nybbles.proofs.Codes.{All, more, HasMonths, codes-some}
 use Rattle.nybbles.proofs.Reading.{passes, leap-room}
 
 by-mark : {A : Type 0} (m : Mark) → (m ≡ Continues → A) → ((k : Sign) → m ≡ Leaps k → A) → (m ≡ Expires → A) → A
@@ -54,10 +54,10 @@ module _ (st : State) (c : Code) (base : ℕ) (r : Right base st) (h : 0 < c .mo
       by-cond Formed (ltb p count) (λ b. never 6 p (omega arith))
       (λ b. rw (m, month) (sound-end base (st .gap + c .months) (st .schedule) (omega arith) (s .gap) (rw month at (s .total)) (r .sound)))
 
-sound : (cs : List Code) (count p base : ℕ) (st : State) → AllSome cs → Right base st → Formed (readCodes count p st cs)
+sound : (cs : List Code) (count p base : ℕ) (st : State) → All HasMonths cs → Right base st → Formed (readCodes count p st cs)
 unfolding readCodes
 sound [] count p base st a r = never 1 p (omega arith)
-sound (c ∷ cs) count p base st (some h a) r =
+sound (c ∷ cs) count p base st (more h a) r =
     by-cond Formed (eqb (fault st c) 0)
     (λ e. let s = passes st c (eqb-true (fault st c) 0 e) in
     by-mark (c .mark)

@@ -45,9 +45,17 @@ bitM n = n / 4 % 2
 abbrev pub bitsNP : ℕ → ℕ
 bitsNP n = n % 4
 
+-- M 0 counts sixes of months
+abbrev pub inSixes : ℕ
+inSixes = 0
+
+-- M 1 counts months
+abbrev pub inMonths : ℕ
+inMonths = 1
+
 -- the months of M and G: (G + 1) if M is 1, 6 x (G + 1) if M is 0
 abbrev pub monthsOf : ℕ → ℕ → ℕ
-monthsOf m g = cond (eqb m 1) (g + 1) (6 * (g + 1))
+monthsOf m g = cond (eqb m inMonths) (g + 1) (6 * (g + 1))
 
 -- a nybble below 8, of value V: a gap of 6 x (V + 1) months with a positive leap
 unfoldable pub single : ℕ → Code

@@ -4,7 +4,7 @@ use Prim.Native.Nat.{ℕ, _+_, _*_, _≤_, _<_}
 use mathlib.Core.Path.{_≡_}
 use mathlib.Core.Bool.{true}
 use mathlib.Core.List.{List, _∷_}
-use lib.ListN.{length, drop}
+use lib.ListN.{length, take, drop}
 use Rattle.schedule.specs.Schedule.{maxGap, lastMonth}
 use Rattle.schedule.specs.Words.{fromWords}
 use Rattle.nybbles.specs.declared.code.Code.{Code}
@@ -40,3 +40,9 @@ pub record Next (bytes : List ℕ) (at : ℕ) (c : Code) : Type 0 where
   pub one : 0 < c .size
   pub two : c .size ≤ 2
   pub inside : at + c .size ≤ length (nybbles bytes)
+
+-- the room for written codes holds n of them
+pub record Holds (codes : List ℕ) (n : ℕ) (cs : List ℕ) : Type 0 where
+  pub few : n ≤ 2400
+  pub full : length codes ≡ 2400
+  pub held : take n codes ≡ cs

@@ -16,6 +16,11 @@ pub(crate) const NP_NEGATIVE: u8 = 2;
 
 pub(crate) const NP_EXPIRY: u8 = 3;
 
+// M of a nybble 1MNP: it counts sixes of months, or months.
+pub(crate) const IN_SIXES: u8 = 0;
+
+pub(crate) const IN_MONTHS: u8 = 1;
+
 // G of a nybble 1MNP that is the last of its list.
 const LAST_G: u8 = 4;
 
@@ -66,7 +71,7 @@ fn wide_code(n: u8, g: u8, size: usize) -> Code
     ensures { λ r. ⌜ r ≡ wide n g size ⌝ }
 {
     let mark = mark_of(n % 4);
-    if n / 4 % 2 == 1 {
+    if n / 4 % 2 == IN_MONTHS {
         return Code {
             months: g as u32 + 1,
             mark,
