@@ -42,7 +42,7 @@ sixes-all : (np k : ℕ) → np < 4 → All IsCode (sixes np k)
 unfolding sixes
 sixes-all np k h = all-append (all-times (times k)) (more (sixes-code np (k - 16 * times k) h (omega arith)) none)
 
-gap-all : (np gap : ℕ) → np < 4 → 0 < gap → All IsCode (gapCodes np gap)
+pub gap-all : (np gap : ℕ) → np < 4 → 0 < gap → All IsCode (gapCodes np gap)
 unfolding gapCodes
 gap-all np gap h some =
     by-cond (All IsCode) (eqb (gap % 6) 0)

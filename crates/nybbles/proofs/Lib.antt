@@ -8,3 +8,5 @@ mod Filled
 mod Evened
 pub mod Division
 mod Packed
+pub mod Meaning
+pub mod Back
