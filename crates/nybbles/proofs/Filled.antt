@@ -13,10 +13,11 @@ use Rattle.schedule.specs.declared.Schedule.{Schedule}
 use Rattle.schedule.specs.Schedule.{noLeap, leapsOf, gapFits, gapsFit, wellFormed}
 use Rattle.schedule.proofs.Formed as formed
 use Rattle.schedule.proofs.Gaps.{fits-lt, fits-le, first, later, Parts, parts}
+use Rattle.schedule.proofs.Stores.{sets-append}
 use Rattle.nybbles.specs.Codes.{npExpiry}
 use Rattle.nybbles.specs.Write.{npOf, gapCodes, codesFrom, plainCodes}
 use Rattle.nybbles.specs.Inner.{Holds}
-use Rattle.nybbles.proofs.Stored.{sets-append, list-short}
+use Rattle.nybbles.proofs.Stored.{list-short}
 
 pub np-small : (k : Sign) → npOf k < 4
 np-small Positive = omega arith

@@ -13,11 +13,11 @@ use borrow.Author.Tests.{lt-ltb, le-ltb}
 use Rattle.schedule.specs.declared.Schedule.{Schedule}
 use Rattle.schedule.specs.Schedule.{wellFormed}
 use Rattle.schedule.proofs.Cases.{by-bool}
+use Rattle.schedule.proofs.Stores.{sets-append}
 use Rattle.nybbles.specs.Codes.{nybbles}
 use Rattle.nybbles.specs.Write.{halves, spread, pack, plainCodes, spelling, nybblesOf}
 use Rattle.nybbles.specs.Inner.{Holds}
 use Rattle.nybbles.proofs.Codes.{All, none, more, count}
-use Rattle.nybbles.proofs.Stored.{sets-append}
 use Rattle.nybbles.proofs.Evened.{halves-few, halves-length, spread-next, spread-end}
 use Rattle.nybbles.proofs.Division.{IsNybble, spelling-all, spread-all, evened-even, no-nybble-lost}
 

@@ -11,7 +11,7 @@ use lib.ListN.{length}
 use borrow.Author.Tests.{eqb-true, eqb-false}
 use Rattle.schedule.specs.declared.Sign.{Sign}
 use Rattle.schedule.specs.declared.Reading.{Reading}
-use Rattle.schedule.specs.Schedule.{wellFormed}
+use Rattle.schedule.specs.Schedule.{blankSchedule, wellFormed}
 use Rattle.schedule.proofs.Cases.{by-cond}
 use Rattle.schedule.proofs.Sound.{Formed, never, Sound, sound-leap, sound-end, blank-sound}
 use Rattle.nybbles.specs.declared.code.Mark.{Mark}
@@ -66,9 +66,16 @@ sound (c ∷ cs) count p base st (more h a) r =
     (λ m. simp m (right-end st c base r h s m count (p + c .size))))
     (λ e. never (fault st c) p (pos-of-ne-zero (eqb-false (fault st c) 0 e)))
 
--- whatever is accepted is well formed
-pub accepted-well-formed : (bytes : List ℕ) → readNybbles bytes .number ≡ 0 → wellFormed (readNybbles bytes .schedule) ≡ true
+pub read-formed : (bytes : List ℕ) → Formed (readNybbles bytes)
 unfolding readNybbles
-accepted-well-formed bytes e =
+read-formed bytes =
     let ns = nybbles bytes in
-    sound (codesOf ns) (length ns) 0 0 start (codes-some ns) (record { total = refl; sound = blank-sound }) .formed e
+    sound (codesOf ns) (length ns) 0 0 start (codes-some ns) (record { total = refl; sound = blank-sound })
+
+-- a refused reading returns the blank schedule
+pub refused-blank : (bytes : List ℕ) → (readNybbles bytes .number ≡ 0 → ⊥) → readNybbles bytes .schedule ≡ blankSchedule
+refused-blank bytes = read-formed bytes .blank
+
+-- an accepted list's schedule is well formed
+pub accepted-well-formed : (bytes : List ℕ) → readNybbles bytes .number ≡ 0 → wellFormed (readNybbles bytes .schedule) ≡ true
+accepted-well-formed bytes = read-formed bytes .formed

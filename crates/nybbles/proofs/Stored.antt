@@ -5,7 +5,6 @@ use mathlib.Core.Bool.{true}
 use mathlib.Core.List.{List, [], _∷_, _++_}
 use Prim.Native.Nat.{ℕ, suc, _+_, _*_, _-_, _/_, _%_, _≤_, _<_}
 use native.Mathlib.Numerals.{add-one}
-use native.Mathlib.Nat.{add-zero, add-suc, suc-add}
 use native.Mathlib.Omega.{arith}
 use lib.Dec.{leb, eqb}
 use lib.ListN.{length, set, length-append, length-replicate}
@@ -14,14 +13,10 @@ use borrow.Author.Tests.{leb-true, leb-false, le-leb, lt-leb, eqb-true, eqb-fals
 use Rattle.schedule.specs.declared.Leap.{Leap}
 use Rattle.schedule.specs.Schedule.{gapsFit}
 use Rattle.schedule.proofs.Cases.{by-bool}
+use Rattle.schedule.proofs.Stores.{sets-append}
 use Rattle.schedule.proofs.Gaps.{fits-lt, first, later}
 use Rattle.nybbles.specs.Codes.{npNone}
 use Rattle.nybbles.specs.Write.{npOf, monthsCode, sixesCode, sixteen, times, sixes, gapCodes, codesFrom}
-
--- a run of stores in two parts
-pub sets-append : (xs l : List ℕ) (i : ℕ) (ys : List ℕ) → sets l i (xs ++ ys) ≡ sets (sets l i xs) (i + length xs) ys
-sets-append [] l i ys = rw add-zero
-sets-append (x ∷ xs) l i ys = sets-append xs _ (suc i) ys ∙ rw (suc-add, add-suc)
 
 -- more than 16 sixes, and at most 16
 sixes-more : (np k : ℕ) → 16 < k → sixes np k ≡ sixteen ∷ sixes np (k - 16)
