@@ -1,0 +1,145 @@
+-- Reading back: the nybble list of a well-formed schedule is read as that schedule.
+-- Assumes nothing.
+use mathlib.Core.Path.{_≡_, refl, sym, ap, _∙_}
+use mathlib.Core.Bool.{true}
+use mathlib.Core.List.{List, [], _∷_, _++_, map, map-append}
+use Prim.Native.Nat.{ℕ, _+_, _*_, _-_, _%_, _≤_, _<_}
+use native.Mathlib.Omega.{arith}
+use lib.Dec.{ltb, eqb}
+use lib.ListN.{length, length-map}
+use lib.Seq.{length-take-le}
+use borrow.Author.Tests.{ltb-true, lt-ltb, le-ltb, le-leb, eqb-false}
+use Rattle.schedule.specs.declared.Sign.{Sign}
+use Rattle.schedule.specs.declared.Sign.the-variants.{Positive, Negative}
+use Rattle.schedule.specs.declared.Leap.{Leap}
+use Rattle.schedule.specs.declared.Schedule.{Schedule}
+use Rattle.schedule.specs.declared.Reading.{Reading}
+use Rattle.schedule.specs.Schedule.{blankSchedule, leapsOf, gapsFit, wellFormed}
+use Rattle.schedule.specs.Answers.{accepted, withLeap}
+use Rattle.schedule.proofs.Cases.{by-bool}
+use Rattle.schedule.proofs.Gaps.{fits-lt, fits-le, first, later, before-end, parts}
+use Rattle.schedule.proofs.Adds.{adds, made-again}
+use Rattle.nybbles.specs.declared.code.Mark.{Mark}
+use Rattle.nybbles.specs.declared.code.Mark.the-variants.{Leaps, Expires}
+use Rattle.nybbles.specs.declared.code.Code.{Code}
+use Rattle.nybbles.specs.Codes.{npExpiry, markOf, inSixes, npPositive, nybbles, codesOf}
+use Rattle.nybbles.specs.Read.{State, isExpiry, fault, after, atEnd, readCodes, start, readNybbles}
+use Rattle.nybbles.specs.Write.{npOf, gapCodes, codesFrom, plainCodes, spread, anySingle, padded, evened, pack, spelling, nybblesOf}
+use Rattle.nybbles.proofs.Codes.{sizes, sizes-add-up}
+use Rattle.nybbles.proofs.Filled.{np-small}
+use Rattle.nybbles.proofs.Division.{codeOf, divided, spelling-all, spread-all, evened-even, unpacked}
+use Rattle.nybbles.proofs.Meaning.{Means, last, more, single-read, pair-read, written-means}
+
+-- months and mark alone: a code as if it had one nybble
+abbrev plain : Code → Code
+plain c = record { months = c .months; mark = c .mark; size = 1 }
+
+plain-fault : (st : State) (c : Code) → fault st (plain c) ≡ fault st c
+unfolding fault
+plain-fault st c = refl
+
+plain-after : (st : State) (c : Code) → after st (plain c) ≡ after st c
+unfolding after
+plain-after st c = refl
+
+plain-end : (cs : List Code) (st : State) (p q k l : ℕ) → k ≡ p + sizes cs → l ≡ q + length cs → atEnd l q st .number ≡ 0 → atEnd k p st ≡ atEnd l q st
+unfolding sizes
+plain-end [] st p q k l e f z = simp (le-ltb p k (omega arith), le-ltb q l (omega arith))
+plain-end (d ∷ ds) st p q k l e f z = absurd (omega (arith, simp (lt-ltb q l (omega arith)) at z))
+
+-- a reading that is accepted goes by months and marks alone
+plain-read : (cs : List Code) (st : State) (p q k l : ℕ) → k ≡ p + sizes cs → l ≡ q + length cs → readCodes l q st (map plain cs) .number ≡ 0 → readCodes k p st cs ≡ readCodes l q st (map plain cs)
+unfolding readCodes sizes
+plain-read [] st p q k l e f z = absurd (omega arith)
+plain-read (c ∷ cs) st p q k l e f z =
+    let a = plain-fault st c in
+    let b = plain-after st c in
+    by-bool (eqb (fault st c) 0)
+    (λ g. by-bool (isExpiry (c .mark))
+    (λ x. simp (a, b, g, x) (plain-end cs (after st c) (p + c .size) (q + 1) k l (omega arith) (omega arith) (simp (a, b, g, x) at z)))
+    (λ x. simp (a, b, g, x) (plain-read cs (after st c) (p + c .size) (q + 1) k l (omega arith) (omega arith) (simp (a, b, g, x) at z))))
+    (λ g. absurd (eqb-false (fault st c) 0 g (simp (a, g) at z)))
+
+-- codes are taken with one answer, wherever they stand
+abbrev Takes : State → List Code → Reading → Type 0
+Takes st cs r = (p l : ℕ) → l ≡ p + length cs → readCodes l p st (map plain cs) ≡ r
+
+abbrev at : ℕ → ℕ → Schedule → State
+at g t s = record { gap = g; total = t; schedule = s }
+
+-- the codes of a gap to a leap, and of the gap to the expiry
+module _ (s : Schedule) (month : ℕ) (m : month ≤ 2400) where
+  module _ (k : Sign) (room : s .count < 256) (rest : List Code) (r : Reading) (takes : Takes (at 0 month (withLeap s month k)) rest r) where
+    leap-back : (g t : ℕ) {cs : List Code} {gap : ℕ} → Means (Leaps k) cs gap → g + gap ≤ 999 → t + gap ≡ month → Takes (at g t s) (cs ++ rest) r
+    unfolding readCodes fault after
+    leap-back g t {gap} (last {c} e n) f q p l h =
+        let a : g + c .months ≡ g + gap = omega arith in
+        let b : t + c .months ≡ month = omega arith in
+        simp (e, a, b, le-leb (g + gap) 999 f, le-leb month 2400 m, lt-ltb (s .count) 256 room) (takes (p + 1) l (omega arith))
+    leap-back g t {gap} (more {c} {rest = left} e n w) f q p l h =
+        simp (e, le-leb (g + c .months) 999 (omega arith), le-leb (t + c .months) 2400 (omega arith))
+        (leap-back (g + c .months) (t + c .months) w (omega arith) (omega arith) (p + 1) l (omega arith))
+
+  end-back : (g t : ℕ) {cs : List Code} {gap : ℕ} → Means Expires cs gap → g + gap ≤ 999 → t + gap ≡ month → Takes (at g t s) cs (accepted s month)
+  unfolding readCodes fault after
+  end-back g t {gap} (last {c} e n) f q p l h =
+      let a : g + c .months ≡ g + gap = omega arith in
+      let b : t + c .months ≡ month = omega arith in
+      simp (e, a, b, le-leb (g + gap) 999 f, le-leb month 2400 m, le-ltb (p + 1) l (omega arith))
+  end-back g t {gap} (more {c} {rest = left} e n w) f q p l h =
+      simp (e, le-leb (g + c .months) 999 (omega arith), le-leb (t + c .months) 2400 (omega arith))
+      (end-back (g + c .months) (t + c .months) w (omega arith) (omega arith) (p + 1) l (omega arith))
+
+np-mark : (k : Sign) → markOf (npOf k) ≡ Leaps k
+np-mark Positive = refl
+np-mark Negative = refl
+
+-- the codes of a list of leaps and of the expiry
+list-back : (ls : List Leap) (from expiry : ℕ) (s : Schedule) → gapsFit from ls expiry ≡ true → expiry ≤ 2400 → s .count + length ls ≤ 256
+    → Takes (at 0 from s) (map codeOf (codesFrom from ls expiry)) (accepted (adds s ls) expiry)
+unfolding codesFrom gapsFit adds
+list-back [] from expiry s f h room =
+    let a : from < expiry = fits-lt from expiry f in
+    let b : expiry - from ≤ 999 = fits-le from expiry f in
+    end-back s expiry h 0 from (written-means npExpiry (expiry - from) (omega arith) (omega arith)) (omega arith) (omega arith)
+list-back (l ∷ ls) from expiry s f h room =
+    let m = l .month in
+    let a : from < m = fits-lt from m (first from l ls expiry f) in
+    let b : m - from ≤ 999 = fits-le from m (first from l ls expiry f) in
+    let d : m < expiry = before-end ls m expiry (later from l ls expiry f) in
+    let w : Means (Leaps (l .sign)) (map codeOf (gapCodes (npOf (l .sign)) (m - from))) (m - from) = rw (np-mark (l .sign)) at (written-means (npOf (l .sign)) (m - from) (np-small (l .sign)) (omega arith)) in
+    rw map-append
+    (leap-back s m (omega arith) (l .sign) (omega arith) (map codeOf (codesFrom m ls expiry)) _ (list-back ls m expiry (withLeap s m (l .sign)) (later from l ls expiry f) h (omega arith)) 0 from w (omega arith) (omega arith))
+
+-- a single nybble with a 9 before it has its months and its mark
+nine : (c : ℕ) → c < 16 → plain (codeOf (9 * 16 + c)) ≡ plain (codeOf c)
+nine c h = rw (single-read c h, pair-read inSixes npPositive c (omega arith) (omega arith) h)
+
+padded-plain : (cs : List ℕ) → map plain (map codeOf (padded cs)) ≡ map plain (map codeOf cs)
+unfolding padded
+padded-plain [] = refl
+padded-plain (c ∷ cs) =
+    by-bool (anySingle cs)
+    (λ a. simp (a, padded-plain cs))
+    (λ a. by-bool (ltb c 16) (λ b. simp (a, b, nine c (ltb-true c 16 b))) (λ b. simp (a, b)))
+
+evened-plain : (cs : List ℕ) → map plain (map codeOf (evened cs)) ≡ map plain (map codeOf cs)
+unfolding evened
+evened-plain cs = by-bool (eqb (length (spread cs) % 2) 0) (λ a. simp a) (λ a. simp a (padded-plain cs))
+
+-- the nybble list of a well-formed schedule with 256 places is read as that schedule
+pub reads-back : (s : Schedule) → length (s .leaps) ≡ 256 → wellFormed s ≡ true → readNybbles (nybblesOf s) ≡ record { number = 0; place = 0; schedule = s }
+unfolding readNybbles nybblesOf spelling
+reads-back s full w =
+    let p = parts s w in
+    let used = length-take-le (s .count) (s .leaps) (omega (arith, p .room)) in
+    let written = spelling-all s w in
+    let ns = spread (spelling s) in
+    let cs = codesOf ns in
+    let answer = accepted (adds blankSchedule (leapsOf s)) (s .expiry) in
+    let same : map plain cs ≡ map plain (map codeOf (plainCodes s)) = ap (map plain) (divided (spelling s) written) ∙ evened-plain (plainCodes s) in
+    let as-many : length cs ≡ length (map codeOf (plainCodes s)) = sym (length-map cs plain) ∙ (ap length same ∙ length-map (map codeOf (plainCodes s)) plain) in
+    let taken : readCodes (length cs) 0 start (map plain cs) ≡ answer =
+    ap (readCodes (length cs) 0 start) same ∙ list-back (leapsOf s) 0 (s .expiry) blankSchedule (p .gaps) (p .end) (omega (arith, p .room)) 0 (length cs) (omega arith) in
+    ap (λ (ms : List ℕ). readCodes (length ms) 0 start (codesOf ms)) (unpacked ns (evened-even (plainCodes s)) (spread-all (spelling s) written))
+    ∙ (plain-read cs start 0 0 (length ns) (length cs) (omega (arith, sizes-add-up ns)) (omega arith) (ap (λ (r : Reading). r .number) taken) ∙ (taken ∙ made-again s full w))

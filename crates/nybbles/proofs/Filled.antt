@@ -1,0 +1,118 @@
+-- The written codes of a schedule, gap by gap: what holds in the loop of `put_gaps`.
+-- Assumes nothing.
+use mathlib.Core.Path.{_≡_, refl, sym, ap, _∙_}
+use mathlib.Core.Bool.{true}
+use mathlib.Core.List.{List, _++_}
+use Prim.Native.Nat.{ℕ, _+_, _-_, _≤_, _<_}
+use native.Mathlib.Omega.{arith}
+use lib.ListN.{length, getD, drop, length-append, drop-of-length-le}
+use lib.Seq.{sets, sets-eq, length-sets, take-at}
+use Rattle.schedule.specs.declared.Sign.{Sign}
+use Rattle.schedule.specs.declared.Sign.the-variants.{Positive, Negative}
+use Rattle.schedule.specs.declared.Schedule.{Schedule}
+use Rattle.schedule.specs.Schedule.{noLeap, leapsOf, gapFits, gapsFit, wellFormed}
+use Rattle.schedule.proofs.Formed as formed
+use Rattle.schedule.proofs.Gaps.{fits-lt, fits-le, first, later, Parts, parts}
+use Rattle.schedule.proofs.Stores.{sets-append}
+use Rattle.nybbles.specs.Codes.{npExpiry}
+use Rattle.nybbles.specs.Write.{npOf, gapCodes, codesFrom, plainCodes}
+use Rattle.nybbles.specs.Inner.{Holds}
+use Rattle.nybbles.proofs.Stored.{list-short}
+
+pub np-small : (k : Sign) → npOf k < 4
+np-small Positive = omega arith
+np-small Negative = omega arith
+
+-- what `put_gap` asks
+abbrev Asked : ℕ → ℕ → ℕ → Type 0
+Asked at np gap = ((np < 4) × ((0 < gap) × (gap ≤ 999))) × (at + length (gapCodes np gap) ≤ 2400)
+
+-- the gaps left, stored from here on, make the whole
+pub record Fills (s : Schedule) (codes₀ codes : List ℕ) (at last i : ℕ) : Type 0 where
+  pub parted : Parts s
+  pub full : length (s .leaps) ≡ 256
+  pub inside : i ≤ s .count
+  pub left : gapsFit last (drop i (leapsOf s)) (s .expiry) ≡ true
+  pub count : at + length (codesFrom last (drop i (leapsOf s)) (s .expiry)) ≡ length (plainCodes s)
+  pub stored : sets codes at (codesFrom last (drop i (leapsOf s)) (s .expiry)) ≡ sets codes₀ 0 (plainCodes s)
+
+pub fills-start : (s : Schedule) (codes : List ℕ) → wellFormed s ≡ true → length (s .leaps) ≡ 256 → Fills s codes codes 0 0 0
+fills-start s codes w l = record { parted = parts s w; full = l; inside = omega arith; left = parts s w .gaps; count = omega arith; stored = refl }
+
+module _ (s : Schedule) (codes₀ codes : List ℕ) (at last i : ℕ) (f : Fills s codes₀ codes at last i) where
+  pub room : s .count ≤ 256
+  room = f .parted .room
+
+  all-short : length (plainCodes s) ≤ 2400
+  all-short = omega (arith, list-short (leapsOf s) 0 (s .expiry) (f .parted .gaps), f .parted .end)
+
+  used : length (leapsOf s) ≡ s .count
+  used = formed.used s (f .full) i room
+
+  -- a leap
+  module _ (h : i < s .count) where
+    abbrev month : ℕ
+    month = getD (s .leaps) i noLeap .month
+
+    abbrev np : ℕ
+    np = npOf (getD (s .leaps) i noLeap .sign)
+
+    abbrev rest : List ℕ
+    rest = codesFrom month (drop (i + 1) (leapsOf s)) (s .expiry)
+
+    next-codes : codesFrom last (drop i (leapsOf s)) (s .expiry) ≡ gapCodes np (month - last) ++ rest
+    unfolding codesFrom
+    next-codes = rw (formed.in-use s i (omega (arith, used)))
+
+    next-length : length (codesFrom last (drop i (leapsOf s)) (s .expiry)) ≡ length (gapCodes np (month - last)) + length rest
+    next-length = ap length next-codes ∙ simp length-append
+
+    pub next-fits : gapFits last month ≡ true
+    next-fits = first last _ (drop (i + 1) (leapsOf s)) (s .expiry) (rw (formed.in-use s i (omega (arith, used))) at (f .left))
+
+    pub next-asked : (k : ℕ) → k ≡ np → Asked at k (month - last)
+    next-asked k e =
+        let a : last < month = fits-lt last month next-fits in
+        rw e ((np-small (getD (s .leaps) i noLeap .sign), (omega arith, fits-le last month next-fits)), omega (arith, f .count, all-short, next-length))
+
+    pub fills-step : (exit : List ℕ) (r k : ℕ) → k ≡ np → r ≡ at + length (gapCodes k (month - last)) → exit ≡ sets codes at (gapCodes k (month - last)) → Fills s codes₀ exit r month (i + 1)
+    fills-step exit r k e p q =
+        let c : gapCodes k (month - last) ≡ gapCodes np (month - last) = rw e refl in
+        record {
+          parted = f .parted;
+          full = f .full;
+          inside = omega arith;
+          left = later last _ (drop (i + 1) (leapsOf s)) (s .expiry) (rw (formed.in-use s i (omega (arith, used))) at (f .left));
+          count = omega (arith, f .count, next-length, ap length c);
+          stored = rw (p, q, c) (sym (sets-append (gapCodes np (month - last)) codes at rest) ∙ (ap (sets codes at) (sym next-codes) ∙ f .stored));
+        }
+
+  -- the expiry
+  module _ (h : s .count ≤ i) where
+    abbrev gap : ℕ
+    gap = s .expiry - last
+
+    last-codes : codesFrom last (drop i (leapsOf s)) (s .expiry) ≡ gapCodes npExpiry gap
+    unfolding codesFrom
+    last-codes =
+        let j : length (leapsOf s) ≤ i = omega (arith, used) in
+        rw (drop-of-length-le (leapsOf s) j)
+
+    pub last-fits : gapFits last (s .expiry) ≡ true
+    last-fits = sym (formed.gap-last s (f .full) i room h last (s .expiry)) ∙ f .left
+
+    pub last-asked : Asked at npExpiry gap
+    last-asked =
+        let a : last < s .expiry = fits-lt last (s .expiry) last-fits in
+        ((omega arith, (omega arith, fits-le last (s .expiry) last-fits)), omega (arith, f .count, all-short, ap length last-codes))
+
+    pub fills-end : length codes₀ ≡ 2400 → (exit : List ℕ) (r : ℕ) → r ≡ at + length (gapCodes npExpiry gap) → exit ≡ sets codes at (gapCodes npExpiry gap) → Holds exit r (plainCodes s)
+    fills-end all exit r p q =
+        let e : exit ≡ sets codes₀ 0 (plainCodes s) = q ∙ (ap (sets codes at) (sym last-codes) ∙ f .stored) in
+        let m : r ≡ length (plainCodes s) = omega (arith, f .count, ap length last-codes) in
+        let fit : 0 + length (plainCodes s) ≤ length codes₀ = omega (arith, all-short) in
+        record {
+          few = omega (arith, all-short);
+          full = ap length e ∙ (length-sets codes₀ 0 (plainCodes s) ∙ all);
+          held = rw (e, m, sets-eq (plainCodes s) codes₀ 0 fit) (take-at (plainCodes s) _ (length (plainCodes s)) refl);
+        }

@@ -1,0 +1,12 @@
+-- The laws of the nybble list that no one function owns.
+mod Codes
+mod Reading
+pub mod Sound
+pub mod Early
+mod Stored
+mod Filled
+mod Evened
+pub mod Division
+mod Packed
+pub mod Meaning
+pub mod Back

@@ -1,0 +1,157 @@
+-- Nybbles put into bytes: one nybble, those of a code, and those of the codes of a schedule.
+-- Assumes nothing.
+use mathlib.Core.Path.{_≡_, refl, sym, ap, _∙_}
+use mathlib.Core.Bool.{true}
+use mathlib.Core.List.{List, [], _∷_, _++_}
+use Prim.Native.Nat.{ℕ, zero, suc, _+_, _*_, _/_, _%_, _≤_, _<_}
+use native.Mathlib.Numerals.{add-one}
+use native.Mathlib.Omega.{arith}
+use lib.Dec.{ltb}
+use lib.ListN.{length, getD, take, drop, set}
+use lib.Seq.{sets, length-sets}
+use borrow.Author.Tests.{lt-ltb, le-ltb}
+use Rattle.schedule.specs.declared.Schedule.{Schedule}
+use Rattle.schedule.specs.Schedule.{wellFormed}
+use Rattle.schedule.proofs.Cases.{by-bool}
+use Rattle.schedule.proofs.Stores.{sets-append}
+use Rattle.nybbles.specs.Codes.{nybbles}
+use Rattle.nybbles.specs.Write.{halves, spread, pack, plainCodes, spelling, nybblesOf}
+use Rattle.nybbles.specs.Inner.{Holds}
+use Rattle.nybbles.proofs.Codes.{All, none, more, count}
+use Rattle.nybbles.proofs.Evened.{halves-few, halves-length, spread-next, spread-end}
+use Rattle.nybbles.proofs.Division.{IsNybble, spelling-all, spread-all, evened-even, no-nybble-lost}
+
+-- the upper half of a byte, and the lower one
+pub put-upper : (bs : List ℕ) (at k n : ℕ) → at ≡ 2 * k → nybbles (set bs k (n * 16 + getD bs k 0 % 16)) ≡ set (nybbles bs) at n
+unfolding nybbles
+put-upper [] at k n e = refl
+put-upper (b ∷ bs) zero zero n e =
+    let x : (n * 16 + b % 16) / 16 ≡ n = omega arith in
+    let y : (n * 16 + b % 16) % 16 ≡ b % 16 = omega arith in
+    rw (x, y)
+put-upper (b ∷ bs) zero (suc k) n e = absurd (omega arith)
+put-upper (b ∷ bs) (suc zero) k n e = absurd (omega arith)
+put-upper (b ∷ bs) (suc (suc a)) zero n e = absurd (omega arith)
+put-upper (b ∷ bs) (suc (suc a)) (suc k) n e = rw (put-upper bs a k n (omega arith))
+
+pub put-lower : (bs : List ℕ) (at k n : ℕ) → at ≡ 2 * k + 1 → n < 16 → nybbles (set bs k (getD bs k 0 / 16 * 16 + n)) ≡ set (nybbles bs) at n
+unfolding nybbles
+put-lower [] at k n e h = refl
+put-lower (b ∷ bs) zero k n e h = absurd (omega arith)
+put-lower (b ∷ bs) (suc zero) zero n e h =
+    let x : (b / 16 * 16 + n) / 16 ≡ b / 16 = omega arith in
+    let y : (b / 16 * 16 + n) % 16 ≡ n = omega arith in
+    rw (x, y)
+put-lower (b ∷ bs) (suc zero) (suc k) n e h = absurd (omega arith)
+put-lower (b ∷ bs) (suc (suc a)) zero n e h = absurd (omega arith)
+put-lower (b ∷ bs) (suc (suc a)) (suc k) n e h = rw (put-lower bs a k n (omega arith) h)
+
+-- a whole byte
+put-byte : (bs : List ℕ) (at k m n : ℕ) → at ≡ 2 * k → n < 16 → nybbles (set bs k (m * 16 + n)) ≡ set (set (nybbles bs) at m) (suc at) n
+unfolding nybbles
+put-byte [] at k m n e h = refl
+put-byte (b ∷ bs) zero zero m n e h =
+    let x : (m * 16 + n) / 16 ≡ m = omega arith in
+    let y : (m * 16 + n) % 16 ≡ n = omega arith in
+    rw (x, y)
+put-byte (b ∷ bs) zero (suc k) m n e h = absurd (omega arith)
+put-byte (b ∷ bs) (suc zero) k m n e h = absurd (omega arith)
+put-byte (b ∷ bs) (suc (suc a)) zero m n e h = absurd (omega arith)
+put-byte (b ∷ bs) (suc (suc a)) (suc k) m n e h = rw (put-byte bs a k m n (omega arith) h)
+
+-- packed nybbles stored as bytes
+put-pack : (ns bs : List ℕ) (at k : ℕ) → at ≡ 2 * k → length ns % 2 ≡ 0 → All IsNybble ns → nybbles (sets bs k (pack ns)) ≡ sets (nybbles bs) at ns
+unfolding pack
+put-pack [] bs at k e l a = refl
+put-pack (m ∷ []) bs at k e l a = absurd (omega arith)
+put-pack (m ∷ n ∷ ns) bs at k e l (more h (more i a)) = put-pack ns (set bs k (m * 16 + n)) (suc (suc at)) (suc k) (omega arith) (omega arith) a ∙ rw (put-byte bs at k m n e i)
+
+-- bytes are the packing of their nybbles
+packed : (bs : List ℕ) → pack (nybbles bs) ≡ bs
+unfolding pack nybbles
+packed [] = refl
+packed (b ∷ bs) =
+    let x : b / 16 * 16 + b % 16 ≡ b = omega arith in
+    rw (x, packed bs)
+
+-- the nybbles of a code, before others
+halves-append : (c : ℕ) (ns : List ℕ) → halves c ns ≡ halves c [] ++ ns
+halves-append c ns = by-bool (ltb c 16) (λ b. simp b) (λ b. simp b)
+
+-- a code of one nybble, and one of two
+module _ (at c : ℕ) where
+  pub one-size : c < 16 → at + 1 ≡ at + length (halves c [])
+  one-size h = simp (lt-ltb c 16 h)
+
+  pub two-size : 16 ≤ c → at + 2 ≡ at + length (halves c [])
+  two-size h = simp (le-ltb c 16 h)
+
+  module _ (ns : List ℕ) where
+    pub one-put : c < 16 → set ns at c ≡ sets ns at (halves c [])
+    one-put h = simp (lt-ltb c 16 h)
+
+    pub two-put : 16 ≤ c → set (set ns at (c / 16)) (at + 1) (c % 16) ≡ sets ns at (halves c [])
+    two-put h = simp (le-ltb c 16 h, add-one)
+
+-- what holds in the loop of `put_codes`: the nybbles left, put from here on, make the whole
+pub record Puts (codes : List ℕ) (n : ℕ) (out₀ out : List ℕ) (at i : ℕ) : Type 0 where
+  pub inside : i ≤ n
+  pub few : at ≤ 2 * i
+  pub same : length (nybbles out) ≡ length (nybbles out₀)
+  pub count : at + length (spread (drop i (take n codes))) ≡ length (spread (take n codes))
+  pub stored : sets (nybbles out) at (spread (drop i (take n codes))) ≡ sets (nybbles out₀) 0 (spread (take n codes))
+
+pub puts-start : (codes : List ℕ) (n : ℕ) (out : List ℕ) → Puts codes n out out 0 0
+puts-start codes n out = record { inside = omega arith; few = omega arith; same = refl; count = omega arith; stored = refl }
+
+-- an output keeps its length
+pub puts-same : (codes : List ℕ) (n : ℕ) (out₀ out : List ℕ) (at i : ℕ) → Puts codes n out₀ out at i → length out ≡ length out₀
+puts-same codes n out₀ out at i s = omega (arith, s .same, count out, count out₀)
+
+module _ (codes : List ℕ) (n : ℕ) (out₀ out : List ℕ) (at i : ℕ) (full : n ≤ length codes) (s : Puts codes n out₀ out at i) where
+  module _ (h : i < n) where
+    abbrev c : ℕ
+    c = getD codes i 0
+
+    abbrev rest : List ℕ
+    rest = spread (drop (i + 1) (take n codes))
+
+    next : spread (drop i (take n codes)) ≡ halves c [] ++ rest
+    next = spread-next codes n i full h ∙ halves-append c rest
+
+    next-length : length (spread (drop i (take n codes))) ≡ length (halves c []) + length rest
+    next-length = ap length (spread-next codes n i full h) ∙ halves-length c rest
+
+    pub puts-room : length (spread (take n codes)) ≤ length (nybbles out₀) → at + length (halves c []) ≤ length (nybbles out)
+    puts-room l = omega (arith, s .count, s .same, next-length)
+
+    pub puts-step : (exit : List ℕ) (r : ℕ) → r ≡ at + length (halves c []) → nybbles exit ≡ sets (nybbles out) at (halves c []) → Puts codes n out₀ exit r (i + 1)
+    puts-step exit r p q = record {
+      inside = omega arith;
+      few = omega (arith, s .few, halves-few c);
+      same = ap length q ∙ (length-sets (nybbles out) at (halves c []) ∙ s .same);
+      count = omega (arith, s .count, next-length);
+      stored = rw (p, q) (sym (sets-append (halves c []) (nybbles out) at rest) ∙ (ap (sets (nybbles out) at) (sym next) ∙ s .stored));
+    }
+
+  pub puts-end : n ≤ i → nybbles out ≡ sets (nybbles out₀) 0 (spread (take n codes))
+  puts-end h = ap (sets (nybbles out) at) (sym (spread-end codes n i full h)) ∙ s .stored
+
+-- the list of a schedule
+module _ (s : Schedule) (codes : List ℕ) (n : ℕ) (h : Holds codes n (spelling s)) where
+  spread-held : spread (take n codes) ≡ spread (spelling s)
+  spread-held = ap spread (h .held)
+
+  module _ (m : ℕ) (e : m ≡ length (spread (take n codes))) where
+    pub bytes-counted : m / 2 ≡ length (nybblesOf s)
+    bytes-counted = omega (arith, no-nybble-lost s, ap length spread-held)
+
+    pub bytes-fit : (out : List ℕ) → m / 2 ≤ length out → length (spread (take n codes)) ≤ length (nybbles out)
+    bytes-fit out l = omega (arith, no-nybble-lost s, ap length spread-held, count out)
+
+  pub bytes-put : wellFormed s ≡ true → (out exit : List ℕ) → nybbles exit ≡ sets (nybbles out) 0 (spread (take n codes)) → exit ≡ sets out 0 (nybblesOf s)
+  unfolding nybblesOf spelling
+  bytes-put w out exit e =
+      let ns = spread (spelling s) in
+      let target = put-pack ns out 0 0 refl (evened-even (plainCodes s)) (spread-all (spelling s) (spelling-all s w)) in
+      sym (packed exit) ∙ (ap pack (e ∙ (ap (sets (nybbles out) 0) spread-held ∙ sym target)) ∙ packed (sets out 0 (pack ns)))

@@ -1,0 +1,48 @@
+-- What only the contracts of private functions say: the code's own numbers and places. No promise of the crate speaks of these.
+-- Assumes nothing: these are definitions.
+use Prim.Native.Nat.{ℕ, _+_, _*_, _≤_, _<_}
+use mathlib.Core.Path.{_≡_}
+use mathlib.Core.Bool.{true}
+use mathlib.Core.List.{List, _∷_}
+use lib.ListN.{length, take, drop}
+use Rattle.schedule.specs.Schedule.{maxGap, lastMonth}
+use Rattle.schedule.specs.Words.{fromWords}
+use Rattle.nybbles.specs.declared.code.Code.{Code}
+use Rattle.nybbles.specs.declared.progress.Progress.{Progress}
+use Rattle.nybbles.specs.Codes.{nybbles, codesOf}
+use Rattle.nybbles.specs.Read.{State, hasRoom, after}
+
+-- the state that the reader's numbers stand for, with the leaps as numbers
+abbrev pub stateOf : Progress → List ℕ → State
+stateOf p words = record { gap = p .gap; total = p .total; schedule = fromWords words (p .count) 0 }
+
+-- numbers to which the months of a code can be added
+pub record Short (p : Progress) (c : Code) : Type 0 where
+  pub gap-fits : p .gap ≤ maxGap
+  pub total-fits : p .total ≤ lastMonth
+  pub few : c .months ≤ 6 * 16
+
+-- a code that passes the checks
+pub record Passes (st : State) (c : Code) : Type 0 where
+  pub gap : st .gap + c .months ≤ maxGap
+  pub total : st .total + c .months ≤ lastMonth
+  pub room : hasRoom (c .mark) (st .schedule .count) ≡ true
+
+-- the reader's numbers before and after a code
+pub record Moves (p p′ : Progress) (words words′ : List ℕ) (c : Code) : Type 0 where
+  pub state : stateOf p′ words′ ≡ after (stateOf p words) c
+
+-- a code starts at a place
+pub record Next (bytes : List ℕ) (at : ℕ) (c : Code) : Type 0 where
+  pub divides : codesOf (drop at (nybbles bytes)) ≡ c ∷ codesOf (drop (at + c .size) (nybbles bytes))
+  pub some : 0 < c .months
+  pub few : c .months ≤ 6 * 16
+  pub one : 0 < c .size
+  pub two : c .size ≤ 2
+  pub inside : at + c .size ≤ length (nybbles bytes)
+
+-- the room for written codes holds n of them
+pub record Holds (codes : List ℕ) (n : ℕ) (cs : List ℕ) : Type 0 where
+  pub few : n ≤ 2400
+  pub full : length codes ≡ 2400
+  pub held : take n codes ≡ cs

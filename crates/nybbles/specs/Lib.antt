@@ -1,0 +1,5 @@
+pub mod Codes
+pub mod Read
+pub mod Write
+pub mod Inner
+pub mod Table

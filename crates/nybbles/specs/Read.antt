@@ -1,0 +1,75 @@
+-- What reading a nybble list answers.
+-- Assumes nothing: these are definitions.
+use Prim.Native.Nat.{ℕ, _+_}
+use mathlib.Core.Bool.{Bool, true, false, cond}
+use mathlib.Core.List.{List, [], _∷_}
+use lib.Dec.{ltb, leb, eqb}
+use lib.ListN.{length}
+use Rattle.refusals.specs.Refusals.{endsEarly, badGap, pastLastMonth, tooManyLeaps, afterEnd}
+use Rattle.schedule.specs.declared.Sign.{Sign}
+use Rattle.schedule.specs.declared.Schedule.{Schedule}
+use Rattle.schedule.specs.declared.Reading.{Reading}
+use Rattle.schedule.specs.Schedule.{maxLeaps, maxGap, lastMonth, blankSchedule}
+use Rattle.schedule.specs.Answers.{refusal, accepted, withLeap}
+use Rattle.nybbles.specs.declared.code.Mark.{Mark}
+use Rattle.nybbles.specs.declared.code.Mark.the-variants.{Continues, Leaps, Expires}
+use Rattle.nybbles.specs.declared.code.Code.{Code}
+use Rattle.nybbles.specs.Codes.{nybbles, codesOf}
+
+-- what is read so far: the months of the gap, the months of the list, and the leaps
+pub record State : Type 0 where
+  pub gap : ℕ
+  pub total : ℕ
+  pub schedule : Schedule
+
+abbrev pub isExpiry : Mark → Bool
+isExpiry Continues = false
+isExpiry (Leaps sign) = false
+isExpiry Expires = true
+
+-- a leap may be read where fewer than 256 were
+abbrev pub hasRoom : Mark → ℕ → Bool
+hasRoom Continues count = true
+hasRoom (Leaps sign) count = ltb count maxLeaps
+hasRoom Expires count = true
+
+-- a check and its refusal, before the checks that follow
+abbrev pub require : Bool → ℕ → ℕ → ℕ
+require passes number next = cond passes next number
+
+-- the checks at each code, in this order: the first refusal, or 0
+unfoldable pub fault : State → Code → ℕ
+fault st c =
+    require (leb (st .gap + c .months) maxGap) badGap
+    (require (leb (st .total + c .months) lastMonth) pastLastMonth
+    (require (hasRoom (c .mark) (st .schedule .count)) tooManyLeaps 0))
+
+-- a mark at a month: a leap ends the gap so far
+abbrev pub marked : Mark → ℕ → ℕ → Schedule → State
+marked Continues gap month s = record { gap = gap; total = month; schedule = s }
+marked (Leaps sign) gap month s = record { gap = 0; total = month; schedule = withLeap s month sign }
+marked Expires gap month s = record { gap = gap; total = month; schedule = s }
+
+-- what a code that passes makes of the state: its months are added, and its mark stands at their end
+unfoldable pub after : State → Code → State
+after st c = marked (c .mark) (st .gap + c .months) (st .total + c .months) (st .schedule)
+
+-- after the expiry: a nybble there, at `place` of `count`, is refused
+abbrev pub atEnd : ℕ → ℕ → State → Reading
+atEnd count place st = cond (ltb place count) (refusal afterEnd place) (accepted (st .schedule) (st .total))
+
+-- reading codes of which the first stands at `place` of `count` nybbles; where a code is due and none is left, `place` is that count
+unfoldable pub readCodes : ℕ → ℕ → State → List Code → Reading
+readCodes count place st [] = refusal endsEarly place
+readCodes count place st (c ∷ cs) =
+    cond (eqb (fault st c) 0)
+    (cond (isExpiry (c .mark)) (atEnd count (place + c .size) (after st c)) (readCodes count (place + c .size) (after st c) cs))
+    (refusal (fault st c) place)
+
+-- nothing is read yet
+abbrev pub start : State
+start = record { gap = 0; total = 0; schedule = blankSchedule }
+
+-- reading a nybble list
+unfoldable pub readNybbles : List ℕ → Reading
+readNybbles bytes = readCodes (length (nybbles bytes)) 0 start (codesOf (nybbles bytes))

@@ -1,0 +1,168 @@
+// The written codes of a schedule, in its one spelling.
+// A written code is one number: a single nybble as itself, two nybbles as the byte that they make.
+use crate::code::IN_MONTHS;
+use crate::code::IN_SIXES;
+use crate::code::NP_EXPIRY;
+use crate::code::NP_NEGATIVE;
+use crate::code::NP_NONE;
+use crate::code::NP_POSITIVE;
+use schedule::Schedule;
+use schedule::Sign;
+ghost use mathlib.Core.Path.{_≡_};
+ghost use mathlib.Core.Bool.{true};
+ghost use mathlib.Core.List.{[]};
+ghost use Prim.Native.Nat.{_+_, _≤_, _<_};
+ghost use lib.ListN.{length, take};
+ghost use lib.Seq.{sets};
+ghost use Rattle.schedule.specs.Schedule.{wellFormed, maxGap};
+ghost use Rattle.nybbles.specs.Write.{npOf, pair, monthsCode, sixesCode, sixes, gapCodes, plainCodes, halves, spread, padded, spelling};
+ghost use Rattle.nybbles.specs.Inner.{Holds};
+
+// Room for codes: each has a month at least, so there are at most 2400.
+pub(crate) type Codes = [u8; 2400];
+
+// 16 sixes with NP 00.
+const SIXTEEN: u8 = 0x8F;
+
+// NP of a leap.
+fn np_of(sign: Sign) -> u8
+    ensures { λ r. ⌜ r ≡ npOf sign ⌝ }
+{
+    match sign {
+        Sign::Positive => NP_POSITIVE,
+        Sign::Negative => NP_NEGATIVE,
+    }
+}
+
+// 1MNP and its G.
+fn pair(m: u8, np: u8, g: u8) -> u8
+    requires { ⌜ (m < 2) × ((np < 4) × (g < 16)) ⌝ }
+    ensures { λ r. ⌜ r ≡ pair m np g ⌝ }
+{
+    (8 + 4 * m + np) * 16 + g
+}
+
+// The code of 1 to 16 months.
+fn months_code(np: u8, months: u32) -> u8
+    requires { ⌜ (np < 4) × ((0 < months) × (months ≤ 16)) ⌝ }
+    ensures { λ r. ⌜ r ≡ monthsCode np months ⌝ }
+{
+    pair(IN_MONTHS, np, (months - 1) as u8)
+}
+
+// The code of 1 to 16 sixes: 1 to 8 sixes and a positive leap are a single nybble.
+fn sixes_code(np: u8, k: u32) -> u8
+    requires { ⌜ (np < 4) × ((0 < k) × (k ≤ 16)) ⌝ }
+    ensures { λ r. ⌜ r ≡ sixesCode np k ⌝ }
+{
+    let g = (k - 1) as u8;
+    if np == NP_POSITIVE {
+        if k <= 8 {
+            return g;
+        }
+    }
+    pair(IN_SIXES, np, g)
+}
+
+// Writes the codes of k sixes at a place, and returns the place after them.
+fn put_sixes(codes: &mut Codes, at: usize, np: u8, k: u32) -> usize
+    requires { ⌜ ((np < 4) × (0 < k)) × (at + length (sixes np k) ≤ 2400) ⌝ }
+    ensures { λ r. ⌜ (r ≡ at + length (sixes np k)) × (now (codes .exit) ≡ sets (now (codes .entry)) at (sixes np k)) ⌝ }
+{
+    let mut n = at;
+    let mut left = k;
+    while 16 < left {
+        codes[n] = SIXTEEN;
+        n += 1;
+        left -= 16;
+    }
+    codes[n] = sixes_code(np, left);
+    n + 1
+}
+
+// Writes the codes of a gap at a place, and returns the place after them.
+fn put_gap(codes: &mut Codes, at: usize, np: u8, gap: u32) -> usize
+    requires { ⌜ ((np < 4) × ((0 < gap) × (gap ≤ maxGap))) × (at + length (gapCodes np gap) ≤ 2400) ⌝ }
+    ensures { λ r. ⌜ (r ≡ at + length (gapCodes np gap)) × (now (codes .exit) ≡ sets (now (codes .entry)) at (gapCodes np gap)) ⌝ }
+{
+    if gap % 6 == 0 {
+        return put_sixes(codes, at, np, gap / 6);
+    }
+    if gap <= 16 {
+        codes[at] = months_code(np, gap);
+        return at + 1;
+    }
+    let next = put_sixes(codes, at, NP_NONE, gap / 12 * 2);
+    codes[next] = months_code(np, gap % 12);
+    next + 1
+}
+
+// Writes the codes of a schedule, not evened yet, and returns their number.
+fn put_gaps(s: Schedule, codes: &mut Codes) -> usize
+    requires { ⌜ (wellFormed s ≡ true) × (length (now codes) ≡ 2400) ⌝ }
+    ensures { λ r. ⌜ Holds (now (codes .exit)) r (plainCodes s) ⌝ }
+{
+    let count = s.count;
+    let mut at: usize = 0;
+    let mut last: u32 = 0;
+    let mut i: usize = 0;
+    while i < count {
+        let l = s.leaps[i];
+        let month = l.month as u32;
+        let sign = l.sign;
+        at = put_gap(codes, at, np_of(sign), month - last);
+        last = month;
+        i += 1;
+    }
+    put_gap(codes, at, NP_EXPIRY, s.expiry - last)
+}
+
+// How many nybbles a code has.
+fn code_size(c: u8) -> usize
+    ensures { λ r. ⌜ (r ≡ length (halves c [])) × (r ≤ 2) ⌝ }
+{
+    if c < 16 { 1 } else { 2 }
+}
+
+// How many nybbles the first n codes have.
+pub(crate) fn nybble_count(codes: &Codes, n: usize) -> usize
+    requires { ⌜ (n ≤ 2400) × (length (now codes) ≡ 2400) ⌝ }
+    ensures { λ r. ⌜ r ≡ length (spread (take n (now (codes .entry)))) ⌝ }
+{
+    let mut count: usize = 0;
+    let mut i: usize = 0;
+    while i < n {
+        count += code_size(codes[i]);
+        i += 1;
+    }
+    count
+}
+
+// Puts a 9 before the last single nybble of the first n codes, if there is one.
+fn pad(codes: &mut Codes, n: usize)
+    requires { ⌜ (n ≤ 2400) × (length (now codes) ≡ 2400) ⌝ }
+    ensures { λ _. ⌜ Holds (now (codes .exit)) n (padded (take n (now (codes .entry)))) ⌝ }
+{
+    let mut i = n;
+    while 0 < i {
+        i -= 1;
+        let c = codes[i];
+        if c < 16 {
+            codes[i] = 9 * 16 + c;
+            return;
+        }
+    }
+}
+
+// Writes the codes of a schedule, and returns their number.
+pub(crate) fn spell(s: Schedule, codes: &mut Codes) -> usize
+    requires { ⌜ (wellFormed s ≡ true) × (length (now codes) ≡ 2400) ⌝ }
+    ensures { λ r. ⌜ Holds (now (codes .exit)) r (spelling s) ⌝ }
+{
+    let n = put_gaps(s, codes);
+    if nybble_count(codes, n) % 2 == 0 {
+        return n;
+    }
+    pad(codes, n);
+    n
+}
