@@ -7,6 +7,8 @@ ghost use mathlib.Core.Path.{_≡_};
 ghost use Prim.Native.Nat.{_≤_};
 ghost use Rattle.text.specs.Read.{readText};
 ghost use Rattle.text.specs.Write.{textOf};
+ghost use Rattle.nybbles.specs.Read.{readNybbles};
+ghost use Rattle.nybbles.specs.Write.{nybblesOf};
 ghost use Rattle.leap.specs.Words.{signOf, meant, wordOfSign, wordsOf};
 ghost use Rattle.leap.specs.Calls.{HandsReading, HandsWriting};
 
@@ -111,6 +113,24 @@ pub extern "C" fn leap_write_text(words: &[u32; 514], out: &mut [u8], count: &mu
     ensures { λ n. ⌜ HandsWriting (meant (now (words .entry))) (textOf (meant (now (words .entry)))) (now (out .entry)) n (now (count .exit)) (now (out .exit)) ⌝ }
 {
     let w = text::write_text(schedule_of(words), out);
+    *count = w.count as u64;
+    w.number
+}
+
+// Reads a nybble list.
+#[no_mangle]
+pub extern "C" fn leap_read_nybbles(bytes: &[u8], out: &mut [u32; 514], place: &mut u64) -> u8
+    ensures { λ n. ⌜ HandsReading (readNybbles (now (bytes .entry))) n (now (out .exit)) (now (place .exit)) ⌝ }
+{
+    give(nybbles::read_nybbles(bytes), out, place)
+}
+
+// Writes the nybble list of a schedule.
+#[no_mangle]
+pub extern "C" fn leap_write_nybbles(words: &[u32; 514], out: &mut [u8], count: &mut u64) -> u8
+    ensures { λ n. ⌜ HandsWriting (meant (now (words .entry))) (nybblesOf (meant (now (words .entry)))) (now (out .entry)) n (now (count .exit)) (now (out .exit)) ⌝ }
+{
+    let w = nybbles::write_nybbles(schedule_of(words), out);
     *count = w.count as u64;
     w.number
 }
