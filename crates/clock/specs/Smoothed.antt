@@ -1,0 +1,34 @@
+-- "Times": smoothed time (UTS) and the way back.
+-- Assumes nothing: these are definitions.
+use mathlib.Core.Bool.{cond}
+use Prim.Native.Nat.{ℕ, _+_, _-_, _*_}
+use lib.Dec.{leb, ltb}
+use Rattle.calendar.specs.Greatest.{greatest}
+use Rattle.clock.specs.declared.smooth.Ending.{Ending}
+use Rattle.clock.specs.declared.smooth.Ending.the-variants.{Ordinary, Inserted, Deleted}
+use Rattle.clock.specs.Days.{dayLength}
+
+-- a UTS day, which always has 86,400 s, in nanoseconds
+abbrev pub nanosPerDay : ℕ
+nanosPerDay = 86_400_000_000_000
+
+-- the last 1,000 s of a day are smoothed: in microseconds
+abbrev pub smoothing : ℕ
+smoothing = 1_000_000_000
+
+-- x - w x y, where w is +1, -1 or 0 for the leap ending the day
+abbrev pub minus : Ending → ℕ → ℕ → ℕ
+minus Ordinary x y = x
+minus Inserted x y = x - y
+minus Deleted x y = x + y
+
+-- UTS in nanoseconds, t microseconds into a day of length L with that ending: let R = L - t;
+-- if R < 1,000,000,000, UTS is 1000 x t - w x (1,000,000,000 - R), else 1000 x t
+unfoldable pub uts : Ending → ℕ → ℕ
+uts w t =
+    let R = dayLength w - t in
+    cond (ltb R smoothing) (minus w (1000 * t) (smoothing - R)) (1000 * t)
+
+-- UTS to UTC: the greatest t of the day whose UTS is not above u
+abbrev pub utcOf : Ending → ℕ → ℕ
+utcOf w u = greatest (λ t. leb (uts w t) u) (dayLength w - 1)
