@@ -6,7 +6,6 @@ use mathlib.Core.List.{List, [], _∷_}
 use lib.Dec.{ltb, leb, eqb}
 use lib.ListN.{length}
 use Rattle.refusals.specs.Refusals.{endsEarly, badGap, pastLastMonth, tooManyLeaps, afterEnd}
-use Rattle.schedule.specs.declared.Sign.{Sign}
 use Rattle.schedule.specs.declared.Schedule.{Schedule}
 use Rattle.schedule.specs.declared.Reading.{Reading}
 use Rattle.schedule.specs.Schedule.{maxLeaps, maxGap, lastMonth, blankSchedule}
