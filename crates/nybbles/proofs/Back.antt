@@ -2,7 +2,7 @@
 -- Assumes nothing.
 use mathlib.Core.Path.{_≡_, refl, sym, ap, _∙_}
 use mathlib.Core.Bool.{true}
-use mathlib.Core.List.{List, [], _∷_, _++_, map, map-append}
+use mathlib.Core.List.{List, [], _∷_, _++_, map, map-append, append-nil}
 use Prim.Native.Nat.{ℕ, _+_, _*_, _-_, _%_, _≤_, _<_}
 use native.Mathlib.Omega.{arith}
 use lib.Dec.{ltb, eqb}
@@ -22,9 +22,9 @@ use Rattle.schedule.proofs.Adds.{adds, made-again}
 use Rattle.nybbles.specs.declared.code.Mark.{Mark}
 use Rattle.nybbles.specs.declared.code.Mark.the-variants.{Leaps, Expires}
 use Rattle.nybbles.specs.declared.code.Code.{Code}
-use Rattle.nybbles.specs.Codes.{npExpiry, markOf, inSixes, npPositive, nybbles, codesOf}
+use Rattle.nybbles.specs.Codes.{npExpiry, markOf, inSixes, npPositive, codesOf}
 use Rattle.nybbles.specs.Read.{State, isExpiry, fault, after, atEnd, readCodes, start, readNybbles}
-use Rattle.nybbles.specs.Write.{npOf, gapCodes, codesFrom, plainCodes, spread, anySingle, padded, evened, pack, spelling, nybblesOf}
+use Rattle.nybbles.specs.Write.{npOf, codesFrom, plainCodes, spread, anySingle, padded, evened, spelling, nybblesOf}
 use Rattle.nybbles.proofs.Codes.{sizes, sizes-add-up}
 use Rattle.nybbles.proofs.Filled.{np-small}
 use Rattle.nybbles.proofs.Division.{codeOf, divided, spelling-all, spread-all, evened-even, unpacked}
@@ -48,7 +48,8 @@ plain-end [] st p q k l e f z = simp (le-ltb p k (omega arith), le-ltb q l (omeg
 plain-end (d ∷ ds) st p q k l e f z = absurd (omega (arith, simp (lt-ltb q l (omega arith)) at z))
 
 -- a reading that is accepted goes by months and marks alone
-plain-read : (cs : List Code) (st : State) (p q k l : ℕ) → k ≡ p + sizes cs → l ≡ q + length cs → readCodes l q st (map plain cs) .number ≡ 0 → readCodes k p st cs ≡ readCodes l q st (map plain cs)
+plain-read : (cs : List Code) (st : State) (p q k l : ℕ) → k ≡ p + sizes cs → l ≡ q + length cs → readCodes l q st (map plain cs) .number ≡ 0
+    → readCodes k p st cs ≡ readCodes l q st (map plain cs)
 unfolding readCodes sizes
 plain-read [] st p q k l e f z = absurd (omega arith)
 plain-read (c ∷ cs) st p q k l e f z =
@@ -67,28 +68,26 @@ Takes st cs r = (p l : ℕ) → l ≡ p + length cs → readCodes l p st (map pl
 abbrev at : ℕ → ℕ → Schedule → State
 at g t s = record { gap = g; total = t; schedule = s }
 
--- the codes of a gap to a leap, and of the gap to the expiry
 module _ (s : Schedule) (month : ℕ) (m : month ≤ 2400) where
-  module _ (k : Sign) (room : s .count < 256) (rest : List Code) (r : Reading) (takes : Takes (at 0 month (withLeap s month k)) rest r) where
-    leap-back : (g t : ℕ) {cs : List Code} {gap : ℕ} → Means (Leaps k) cs gap → g + gap ≤ 999 → t + gap ≡ month → Takes (at g t s) (cs ++ rest) r
-    unfolding readCodes fault after
-    leap-back g t {gap} (last {c} e n) f q p l h =
-        let a : g + c .months ≡ g + gap = omega arith in
-        let b : t + c .months ≡ month = omega arith in
-        simp (e, a, b, le-leb (g + gap) 999 f, le-leb month 2400 m, lt-ltb (s .count) 256 room) (takes (p + 1) l (omega arith))
-    leap-back g t {gap} (more {c} {rest = left} e n w) f q p l h =
-        simp (e, le-leb (g + c .months) 999 (omega arith), le-leb (t + c .months) 2400 (omega arith))
-        (leap-back (g + c .months) (t + c .months) w (omega arith) (omega arith) (p + 1) l (omega arith))
-
-  end-back : (g t : ℕ) {cs : List Code} {gap : ℕ} → Means Expires cs gap → g + gap ≤ 999 → t + gap ≡ month → Takes (at g t s) cs (accepted s month)
+  -- the codes of a gap are taken where its last code is, whatever part of the gap that has
+  gap-back : (mark : Mark) (rest : List Code) (r : Reading) → ((c : Code) (g t : ℕ) → c .mark ≡ mark → g + c .months ≤ 999 → t + c .months ≡ month → Takes (at g t s) (c ∷ rest) r)
+      → (g t : ℕ) {cs : List Code} {gap : ℕ} → Means mark cs gap → g + gap ≤ 999 → t + gap ≡ month → Takes (at g t s) (cs ++ rest) r
   unfolding readCodes fault after
-  end-back g t {gap} (last {c} e n) f q p l h =
-      let a : g + c .months ≡ g + gap = omega arith in
-      let b : t + c .months ≡ month = omega arith in
-      simp (e, a, b, le-leb (g + gap) 999 f, le-leb month 2400 m, le-ltb (p + 1) l (omega arith))
-  end-back g t {gap} (more {c} {rest = left} e n w) f q p l h =
+  gap-back mark rest r final g t {gap} (last {c} e n) f q p l h = final c g t e (omega arith) (omega arith) p l h
+  gap-back mark rest r final g t {gap} (more {c} {rest = left} e n w) f q p l h =
       simp (e, le-leb (g + c .months) 999 (omega arith), le-leb (t + c .months) 2400 (omega arith))
-      (end-back (g + c .months) (t + c .months) w (omega arith) (omega arith) (p + 1) l (omega arith))
+      (gap-back mark rest r final (g + c .months) (t + c .months) w (omega arith) (omega arith) (p + 1) l (omega arith))
+
+  -- a leap, and the expiry
+  leap-back : (k : Sign) (rest : List Code) (r : Reading) → s .count < 256 → Takes (at 0 month (withLeap s month k)) rest r
+      → (c : Code) (g t : ℕ) → c .mark ≡ Leaps k → g + c .months ≤ 999 → t + c .months ≡ month → Takes (at g t s) (c ∷ rest) r
+  unfolding readCodes fault after
+  leap-back k rest r room takes c g t e f q p l h =
+      simp (e, q, le-leb (g + c .months) 999 f, le-leb month 2400 m, lt-ltb (s .count) 256 room) (takes (p + 1) l (omega arith))
+
+  end-back : (c : Code) (g t : ℕ) → c .mark ≡ Expires → g + c .months ≤ 999 → t + c .months ≡ month → Takes (at g t s) (c ∷ []) (accepted s month)
+  unfolding readCodes fault after
+  end-back c g t e f q p l h = simp (e, q, le-leb (g + c .months) 999 f, le-leb month 2400 m, le-ltb (p + 1) l (omega arith))
 
 np-mark : (k : Sign) → markOf (npOf k) ≡ Leaps k
 np-mark Positive = refl
@@ -101,15 +100,18 @@ unfolding codesFrom gapsFit adds
 list-back [] from expiry s f h room =
     let a : from < expiry = fits-lt from expiry f in
     let b : expiry - from ≤ 999 = fits-le from expiry f in
-    end-back s expiry h 0 from (written-means npExpiry (expiry - from) (omega arith) (omega arith)) (omega arith) (omega arith)
+    let w = written-means npExpiry (expiry - from) (omega arith) (omega arith) in
+    rw append-nil at (gap-back s expiry h Expires [] _ (end-back s expiry h) 0 from w (omega arith) (omega arith))
 list-back (l ∷ ls) from expiry s f h room =
     let m = l .month in
     let a : from < m = fits-lt from m (first from l ls expiry f) in
     let b : m - from ≤ 999 = fits-le from m (first from l ls expiry f) in
     let d : m < expiry = before-end ls m expiry (later from l ls expiry f) in
-    let w : Means (Leaps (l .sign)) (map codeOf (gapCodes (npOf (l .sign)) (m - from))) (m - from) = rw (np-mark (l .sign)) at (written-means (npOf (l .sign)) (m - from) (np-small (l .sign)) (omega arith)) in
+    let i : m ≤ 2400 = omega arith in
+    let w = rw (np-mark (l .sign)) at (written-means (npOf (l .sign)) (m - from) (np-small (l .sign)) (omega arith)) in
+    let rest = list-back ls m expiry (withLeap s m (l .sign)) (later from l ls expiry f) h (omega arith) in
     rw map-append
-    (leap-back s m (omega arith) (l .sign) (omega arith) (map codeOf (codesFrom m ls expiry)) _ (list-back ls m expiry (withLeap s m (l .sign)) (later from l ls expiry f) h (omega arith)) 0 from w (omega arith) (omega arith))
+    (gap-back s m i (Leaps (l .sign)) _ _ (leap-back s m i (l .sign) (map codeOf (codesFrom m ls expiry)) _ (omega arith) rest) 0 from w (omega arith) (omega arith))
 
 -- a single nybble with a 9 before it has its months and its mark
 nine : (c : ℕ) → c < 16 → plain (codeOf (9 * 16 + c)) ≡ plain (codeOf c)

@@ -1,7 +1,6 @@
 -- The nybbles of bytes, and the codes that they are divided into, at a place.
 -- Assumes nothing.
 use mathlib.Core.Path.{_≡_, refl, sym, ap, _∙_}
-use mathlib.Core.Bool.{Bool, true, false, cond}
 use mathlib.Core.List.{List, [], _∷_}
 use Prim.Native.Nat.{ℕ, zero, suc, _+_, _*_, _/_, _%_, _≤_, _<_}
 use native.Mathlib.Numerals.{add-one}
@@ -12,7 +11,7 @@ use lib.Seq.{drop-cons}
 use borrow.Author.Tests.{lt-ltb, le-ltb}
 use Rattle.schedule.proofs.Cases.{by-bool, by-cond}
 use Rattle.nybbles.specs.declared.code.Code.{Code}
-use Rattle.nybbles.specs.Codes.{nybbles, bitM, monthsOf, single, wide, lastG, codesOf}
+use Rattle.nybbles.specs.Codes.{nybbles, bitM, single, wide, lastG, codesOf}
 use Rattle.nybbles.specs.Inner.{Next}
 
 pub count : (bs : List ℕ) → length (nybbles bs) ≡ 2 * length bs

@@ -7,7 +7,7 @@ use Prim.Native.Nat.{ℕ, zero, suc, _+_, _*_, _-_, _/_, _%_, _≤_, _<_}
 use native.Mathlib.Omega.{arith}
 use lib.Dec.{ltb, leb, eqb}
 use lib.ListN.{length, replicate}
-use borrow.Author.Tests.{leb-true, leb-false, lt-ltb, le-ltb, eqb-true, eqb-false}
+use borrow.Author.Tests.{leb-true, lt-ltb, le-ltb, eqb-true, eqb-false}
 use Rattle.schedule.specs.declared.Leap.{Leap}
 use Rattle.schedule.specs.declared.Schedule.{Schedule}
 use Rattle.schedule.specs.Schedule.{leapsOf, gapsFit, wellFormed}
@@ -15,7 +15,7 @@ use Rattle.schedule.proofs.Cases.{by-bool, by-cond}
 use Rattle.schedule.proofs.Gaps.{fits-lt, first, later, parts}
 use Rattle.nybbles.specs.declared.code.Code.{Code}
 use Rattle.nybbles.specs.Codes.{nybbles, single, wide, codesOf, npPositive, npExpiry}
-use Rattle.nybbles.specs.Write.{npOf, pair, sixesCode, sixteen, times, sixes, gapCodes, codesFrom, plainCodes, spread, anySingle, padded, evened, pack, spelling, nybblesOf}
+use Rattle.nybbles.specs.Write.{npOf, sixesCode, sixteen, times, sixes, gapCodes, codesFrom, plainCodes, spread, anySingle, padded, evened, pack, spelling, nybblesOf}
 use Rattle.nybbles.proofs.Codes.{All, none, more, codes-single, codes-wide}
 use Rattle.nybbles.proofs.Filled.{np-small}
 

@@ -75,7 +75,8 @@ module _ (s : Schedule) (codes₀ codes : List ℕ) (at last i : ℕ) (f : Fills
         let a : last < month = fits-lt last month next-fits in
         rw e ((np-small (getD (s .leaps) i noLeap .sign), (omega arith, fits-le last month next-fits)), omega (arith, f .count, all-short, next-length))
 
-    pub fills-step : (exit : List ℕ) (r k : ℕ) → k ≡ np → r ≡ at + length (gapCodes k (month - last)) → exit ≡ sets codes at (gapCodes k (month - last)) → Fills s codes₀ exit r month (i + 1)
+    pub fills-step : (exit : List ℕ) (r k : ℕ) → k ≡ np → r ≡ at + length (gapCodes k (month - last)) → exit ≡ sets codes at (gapCodes k (month - last))
+        → Fills s codes₀ exit r month (i + 1)
     fills-step exit r k e p q =
         let c : gapCodes k (month - last) ≡ gapCodes np (month - last) = rw e refl in
         record {
@@ -106,7 +107,8 @@ module _ (s : Schedule) (codes₀ codes : List ℕ) (at last i : ℕ) (f : Fills
         let a : last < s .expiry = fits-lt last (s .expiry) last-fits in
         ((omega arith, (omega arith, fits-le last (s .expiry) last-fits)), omega (arith, f .count, all-short, ap length last-codes))
 
-    pub fills-end : length codes₀ ≡ 2400 → (exit : List ℕ) (r : ℕ) → r ≡ at + length (gapCodes npExpiry gap) → exit ≡ sets codes at (gapCodes npExpiry gap) → Holds exit r (plainCodes s)
+    pub fills-end : length codes₀ ≡ 2400 → (exit : List ℕ) (r : ℕ) → r ≡ at + length (gapCodes npExpiry gap) → exit ≡ sets codes at (gapCodes npExpiry gap)
+        → Holds exit r (plainCodes s)
     fills-end all exit r p q =
         let e : exit ≡ sets codes₀ 0 (plainCodes s) = q ∙ (ap (sets codes at) (sym last-codes) ∙ f .stored) in
         let m : r ≡ length (plainCodes s) = omega (arith, f .count, ap length last-codes) in

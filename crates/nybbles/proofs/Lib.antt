@@ -1,6 +1,7 @@
 -- The laws of the nybble list that no one function owns.
 mod Codes
 mod Reading
+pub mod Places
 pub mod Sound
 pub mod Early
 mod Stored

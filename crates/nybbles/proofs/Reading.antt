@@ -7,10 +7,12 @@ use Prim.Native.Nat.{ℕ, _+_, _*_, _≤_, _<_}
 use native.Mathlib.Omega.{arith}
 use lib.ListN.{length, drop, set, replicate, drop-of-length-le}
 use lib.Dec.{leb}
-use borrow.Author.Tests.{ltb-true, lt-ltb, le-ltb, leb-true, eq-eqb, ne-eqb}
+use borrow.Author.Tests.{ltb-true, lt-ltb, le-ltb, leb-true, le-leb, lt-leb, eq-eqb, ne-eqb}
+use Rattle.refusals.specs.Refusals.{badGap, pastLastMonth, tooManyLeaps}
 use Rattle.schedule.specs.declared.Sign.{Sign}
 use Rattle.schedule.specs.declared.Schedule.{Schedule}
 use Rattle.schedule.specs.declared.Reading.{Reading}
+use Rattle.schedule.specs.Schedule.{maxGap, lastMonth}
 use Rattle.schedule.specs.Words.{wordOf, fromWords}
 use Rattle.schedule.specs.Answers.{refusal, accepted}
 use Rattle.schedule.proofs.Cases.{by-bool}
@@ -22,6 +24,26 @@ use Rattle.nybbles.specs.declared.progress.Progress.{Progress}
 use Rattle.nybbles.specs.Codes.{nybbles, codesOf}
 use Rattle.nybbles.specs.Read.{State, isExpiry, hasRoom, fault, marked, after, atEnd, readCodes, readNybbles}
 use Rattle.nybbles.specs.Inner.{stateOf, Passes, Moves, Next}
+
+-- the first check that fails
+module _ (st : State) (c : Code) where
+  pub gap-fault : maxGap < st .gap + c .months → badGap ≡ fault st c
+  unfolding fault
+  gap-fault a = simp (lt-leb (st .gap + c .months) maxGap a)
+
+  module _ (a : st .gap + c .months ≤ maxGap) where
+    pub total-fault : lastMonth < st .total + c .months → pastLastMonth ≡ fault st c
+    unfolding fault
+    total-fault b = simp (le-leb (st .gap + c .months) maxGap a, lt-leb (st .total + c .months) lastMonth b)
+
+    module _ (b : st .total + c .months ≤ lastMonth) where
+      pub room-fault : hasRoom (c .mark) (st .schedule .count) ≡ false → tooManyLeaps ≡ fault st c
+      unfolding fault
+      room-fault d = simp (le-leb (st .gap + c .months) maxGap a, le-leb (st .total + c .months) lastMonth b, d)
+
+      pub no-fault : hasRoom (c .mark) (st .schedule .count) ≡ true → 0 ≡ fault st c
+      unfolding fault
+      no-fault d = simp (le-leb (st .gap + c .months) maxGap a, le-leb (st .total + c .months) lastMonth b, d)
 
 -- a code that has no fault
 pub passes : (st : State) (c : Code) → fault st c ≡ 0 → Passes st c

@@ -2,7 +2,7 @@
 -- Assumes nothing.
 use mathlib.Core.Path.{_≡_, sym, ap, _∙_}
 use mathlib.Core.Bool.{true}
-use mathlib.Core.List.{List, [], _∷_, _++_}
+use mathlib.Core.List.{List, [], _∷_}
 use Prim.Native.Nat.{ℕ, suc, _+_, _*_, _-_, _/_, _%_, _≤_, _<_}
 use native.Mathlib.Numerals.{add-one}
 use native.Mathlib.Omega.{arith}
@@ -16,7 +16,7 @@ use Rattle.schedule.proofs.Cases.{by-bool}
 use Rattle.schedule.proofs.Stores.{sets-append}
 use Rattle.schedule.proofs.Gaps.{fits-lt, first, later}
 use Rattle.nybbles.specs.Codes.{npNone}
-use Rattle.nybbles.specs.Write.{npOf, monthsCode, sixesCode, sixteen, times, sixes, gapCodes, codesFrom}
+use Rattle.nybbles.specs.Write.{npOf, monthsCode, sixesCode, sixteen, times, sixes, years, gapCodes, codesFrom}
 
 -- more than 16 sixes, and at most 16
 sixes-more : (np k : ℕ) → 16 < k → sixes np k ≡ sixteen ∷ sixes np (k - 16)
@@ -72,7 +72,7 @@ module _ (np gap : ℕ) (h : gap % 6 ≡ 0 → ⊥) where
   gap-months l = simp (ne-eqb _ _ h, le-leb gap 16 l)
 
   module _ (l : 16 < gap) where
-    pub gap-years : gapCodes np gap ≡ sixes npNone (gap / 12 * 2) ++ (monthsCode np (gap % 12) ∷ [])
+    pub gap-years : gapCodes np gap ≡ years np gap
     unfolding gapCodes
     gap-years = simp (ne-eqb _ _ h, lt-leb gap 16 l)
 

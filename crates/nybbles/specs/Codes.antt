@@ -1,4 +1,4 @@
--- The nybbles of a list, and their division into codes.
+-- "The nybble list": the nybbles of a list, their division into codes, and what each code says.
 -- Assumes nothing: these are definitions.
 use Prim.Native.Nat.{ℕ, _+_, _*_, _/_, _%_}
 use mathlib.Core.Bool.{cond}

@@ -1,4 +1,4 @@
--- What only the contracts of private functions say: the code's own numbers and places. No promise of the crate speaks of these.
+-- What the private functions promise to each other. No promise to a caller rests on reading this file.
 -- Assumes nothing: these are definitions.
 use Prim.Native.Nat.{ℕ, _+_, _*_, _≤_, _<_}
 use mathlib.Core.Path.{_≡_}
@@ -41,8 +41,12 @@ pub record Next (bytes : List ℕ) (at : ℕ) (c : Code) : Type 0 where
   pub two : c .size ≤ 2
   pub inside : at + c .size ≤ length (nybbles bytes)
 
+-- the room for written codes: each has a month at least, so there are no more of them than months
+abbrev pub maxCodes : ℕ
+maxCodes = lastMonth
+
 -- the room for written codes holds n of them
 pub record Holds (codes : List ℕ) (n : ℕ) (cs : List ℕ) : Type 0 where
-  pub few : n ≤ 2400
-  pub full : length codes ≡ 2400
+  pub few : n ≤ maxCodes
+  pub full : length codes ≡ maxCodes
   pub held : take n codes ≡ cs

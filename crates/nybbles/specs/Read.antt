@@ -1,4 +1,4 @@
--- What reading a nybble list answers.
+-- "The nybble list": what reading a list answers, code by code.
 -- Assumes nothing: these are definitions.
 use Prim.Native.Nat.{ℕ, _+_}
 use mathlib.Core.Bool.{Bool, true, false, cond}
@@ -6,7 +6,6 @@ use mathlib.Core.List.{List, [], _∷_}
 use lib.Dec.{ltb, leb, eqb}
 use lib.ListN.{length}
 use Rattle.refusals.specs.Refusals.{endsEarly, badGap, pastLastMonth, tooManyLeaps, afterEnd}
-use Rattle.schedule.specs.declared.Sign.{Sign}
 use Rattle.schedule.specs.declared.Schedule.{Schedule}
 use Rattle.schedule.specs.declared.Reading.{Reading}
 use Rattle.schedule.specs.Schedule.{maxLeaps, maxGap, lastMonth, blankSchedule}
@@ -22,29 +21,30 @@ pub record State : Type 0 where
   pub total : ℕ
   pub schedule : Schedule
 
+-- NP 11 ends the list
 abbrev pub isExpiry : Mark → Bool
 isExpiry Continues = false
 isExpiry (Leaps sign) = false
 isExpiry Expires = true
 
--- a leap may be read where fewer than 256 were
+-- a leap after 256 has no place
 abbrev pub hasRoom : Mark → ℕ → Bool
 hasRoom Continues count = true
 hasRoom (Leaps sign) count = ltb count maxLeaps
 hasRoom Expires count = true
 
--- a check and its refusal, before the checks that follow
+-- a check, the refusal where it fails, and what follows where it passes
 abbrev pub require : Bool → ℕ → ℕ → ℕ
 require passes number next = cond passes next number
 
--- the checks at each code, in this order: the first refusal, or 0
+-- the checks at each code, in this order: gap so far over 999, total over 2400, a leap after 256; 0 where all pass
 unfoldable pub fault : State → Code → ℕ
 fault st c =
     require (leb (st .gap + c .months) maxGap) badGap
     (require (leb (st .total + c .months) lastMonth) pastLastMonth
     (require (hasRoom (c .mark) (st .schedule .count)) tooManyLeaps 0))
 
--- a mark at a month: a leap ends the gap so far
+-- what a mark at a month makes of the state: a leap ends the gap so far
 abbrev pub marked : Mark → ℕ → ℕ → Schedule → State
 marked Continues gap month s = record { gap = gap; total = month; schedule = s }
 marked (Leaps sign) gap month s = record { gap = 0; total = month; schedule = withLeap s month sign }
@@ -54,11 +54,11 @@ marked Expires gap month s = record { gap = gap; total = month; schedule = s }
 unfoldable pub after : State → Code → State
 after st c = marked (c .mark) (st .gap + c .months) (st .total + c .months) (st .schedule)
 
--- after the expiry: a nybble there, at `place` of `count`, is refused
+-- after the expiry, at nybble `place` of `count`: a nybble there is refused, at its place
 abbrev pub atEnd : ℕ → ℕ → State → Reading
 atEnd count place st = cond (ltb place count) (refusal afterEnd place) (accepted (st .schedule) (st .total))
 
--- reading codes of which the first stands at `place` of `count` nybbles; where a code is due and none is left, `place` is that count
+-- what reading the codes from nybble `place` of `count` on answers; where a code is due and no nybble is left, `place` is `count`
 unfoldable pub readCodes : ℕ → ℕ → State → List Code → Reading
 readCodes count place st [] = refusal endsEarly place
 readCodes count place st (c ∷ cs) =
@@ -70,6 +70,6 @@ readCodes count place st (c ∷ cs) =
 abbrev pub start : State
 start = record { gap = 0; total = 0; schedule = blankSchedule }
 
--- reading a nybble list
+-- what reading a nybble list answers
 unfoldable pub readNybbles : List ℕ → Reading
 readNybbles bytes = readCodes (length (nybbles bytes)) 0 start (codesOf (nybbles bytes))

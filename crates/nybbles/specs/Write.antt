@@ -1,4 +1,4 @@
--- The one spelling of a schedule as a nybble list.
+-- "The nybble list": the one spelling of a schedule.
 -- A written code is a number: a single nybble as itself, two nybbles as the byte that they make.
 -- Assumes nothing: these are definitions.
 use Prim.Native.Nat.{ℕ, _+_, _*_, _-_, _/_, _%_}
@@ -26,7 +26,7 @@ pair m np g = (8 + 4 * m + np) * 16 + g
 abbrev pub monthsCode : ℕ → ℕ → ℕ
 monthsCode np months = pair inMonths np (months - 1)
 
--- the code of 1 to 16 sixes: 1 to 8 sixes and a positive leap are a single nybble
+-- the code of 1 to 16 sixes: a single nybble for 1 to 8 sixes and a positive leap
 abbrev pub sixesCode : ℕ → ℕ → ℕ
 sixesCode np k = cond (eqb np npPositive && leb k 8) (k - 1) (pair inSixes np (k - 1))
 
@@ -42,13 +42,15 @@ times k = (k - 1) / 16
 unfoldable pub sixes : ℕ → ℕ → List ℕ
 sixes np k = replicate (times k) sixteen ++ (sixesCode np (k - 16 * times k) ∷ [])
 
--- a gap: a multiple of 6 months is counted in sixes; another up to 16 months is one code in months;
--- another is first the whole years that it holds, in sixes and all with NP 00, then the 1 to 11 months left with the mark
+-- first the whole years that a gap holds, in sixes and all with NP 00, then the 1 to 11 months left with the mark
+abbrev pub years : ℕ → ℕ → List ℕ
+years np gap = sixes npNone (gap / 12 * 2) ++ (monthsCode np (gap % 12) ∷ [])
+
+-- a gap: a multiple of 6 months is counted in sixes, another up to 16 months is one code in months, another is years and months
 unfoldable pub gapCodes : ℕ → ℕ → List ℕ
 gapCodes np gap =
     cond (eqb (gap % 6) 0) (sixes np (gap / 6))
-    (cond (leb gap 16) (monthsCode np gap ∷ [])
-    (sixes npNone (gap / 12 * 2) ++ (monthsCode np (gap % 12) ∷ [])))
+    (cond (leb gap 16) (monthsCode np gap ∷ []) (years np gap))
 
 -- the gaps from a month on: to each leap, and from the last to the expiry
 unfoldable pub codesFrom : ℕ → List Leap → ℕ → List ℕ
@@ -69,12 +71,12 @@ unfoldable pub anySingle : List ℕ → Bool
 anySingle [] = false
 anySingle (c ∷ cs) = cond (ltb c 16) true (anySingle cs)
 
--- a 9 put before the last single nybble
+-- codes with a 9 put before their last single nybble
 unfoldable pub padded : List ℕ → List ℕ
 padded [] = []
 padded (c ∷ cs) = cond (anySingle cs) (c ∷ padded cs) (cond (ltb c 16) (9 * 16 + c) c ∷ cs)
 
--- the same where the nybble count comes out odd
+-- if the nybble count comes out odd, the last single nybble gets a 9 put before it
 unfoldable pub evened : List ℕ → List ℕ
 evened cs = cond (eqb (length (spread cs) % 2) 0) cs (padded cs)
 

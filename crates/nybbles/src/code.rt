@@ -1,4 +1,4 @@
-// The codes of a nybble list: what a nybble says, alone or with the next one.
+// The codes of a nybble list: what a nybble says, alone or with the next one. M, N, P and G are bits of a code, as in 1MNP and G.
 use schedule::Sign;
 ghost use mathlib.Core.Path.{_≡_};
 ghost use Prim.Native.Nat.{_*_, _≤_, _<_};
@@ -7,21 +7,25 @@ ghost use Rattle.schedule.specs.Schedule.{lastMonth};
 ghost use Rattle.nybbles.specs.Codes.{nybbles, markOf, single, wide};
 ghost use Rattle.nybbles.specs.Inner.{Next};
 
-// NP of a nybble 1MNP: no leap (the gap continues), a positive leap, a negative one, the expiry.
+// NP 00 is no leap: the gap continues.
 pub(crate) const NP_NONE: u8 = 0;
 
+// NP 01 is a positive leap.
 pub(crate) const NP_POSITIVE: u8 = 1;
 
+// NP 10 is a negative leap.
 pub(crate) const NP_NEGATIVE: u8 = 2;
 
+// NP 11 is the expiry.
 pub(crate) const NP_EXPIRY: u8 = 3;
 
-// M of a nybble 1MNP: it counts sixes of months, or months.
+// M 0 counts sixes of months.
 pub(crate) const IN_SIXES: u8 = 0;
 
+// M 1 counts months.
 pub(crate) const IN_MONTHS: u8 = 1;
 
-// G of a nybble 1MNP that is the last of its list.
+// G of a nybble 1MNP that is the last.
 const LAST_G: u8 = 4;
 
 // What stands at the end of a code's months: nothing, since the gap continues, or a leap, or the expiry.

@@ -15,7 +15,8 @@ ghost use Rattle.schedule.specs.Answers.{writing, written};
 ghost use Rattle.nybbles.specs.Read.{readNybbles};
 ghost use Rattle.nybbles.specs.Write.{nybblesOf};
 
-// Reads a nybble list, in one pass: code by code up to the expiry, or to the first code or nybble that is refused.
+// Reads a nybble list; any bytes may be given. One pass, code by code: each code that passes has a month at least, so a list of any length is
+// decided by its 2,401st code. The leaps are kept as numbers until the list is taken.
 pub fn read_nybbles(bytes: &[u8]) -> Reading
     ensures { λ r. ⌜ r ≡ readNybbles (now (bytes .entry)) ⌝ }
 {
@@ -45,12 +46,12 @@ pub fn read_nybbles(bytes: &[u8]) -> Reading
     schedule::refuse(refusals::ENDS_EARLY, at)
 }
 
-// Writes the nybble list of a schedule, in its one spelling.
+// Writes the nybble list of a schedule, in its one spelling; any schedule and any output may be given.
 pub fn write_nybbles(s: Schedule, out: &mut [u8]) -> Writing
     ensures { λ r. ⌜ (r ≡ writing s (nybblesOf s) (length (now (out .entry)))) × (now (out .exit) ≡ written s (nybblesOf s) (now (out .entry))) ⌝ }
 {
     if schedule::is_well_formed(s) {
-        let mut codes = [0u8; 2400];
+        let mut codes = [0u8; spell::MAX_CODES];
         let n = spell::spell(s, &mut codes);
         let count = spell::nybble_count(&codes, n) / 2;
         if count <= out.len() {

@@ -7,6 +7,7 @@ ghost use lib.ListN.{length, take, set};
 ghost use lib.Seq.{sets};
 ghost use Rattle.nybbles.specs.Codes.{nybbles};
 ghost use Rattle.nybbles.specs.Write.{halves, spread};
+ghost use Rattle.nybbles.specs.Inner.{maxCodes};
 
 // Puts a nybble at a place, and leaves the other half of its byte as it is.
 fn put_nybble(out: &mut [u8], at: usize, n: u8)
@@ -24,7 +25,7 @@ fn put_nybble(out: &mut [u8], at: usize, n: u8)
 
 // Puts the nybbles of a code at a place, and returns the place after them.
 fn put_code(out: &mut [u8], at: usize, c: u8) -> usize
-    requires { ⌜ (at ≤ 2 * 2400) × (at + length (halves c []) ≤ length (nybbles (now out))) ⌝ }
+    requires { ⌜ (at ≤ 2 * maxCodes) × (at + length (halves c []) ≤ length (nybbles (now out))) ⌝ }
     ensures { λ r. ⌜ (r ≡ at + length (halves c [])) × (nybbles (now (out .exit)) ≡ sets (nybbles (now (out .entry))) at (halves c [])) ⌝ }
 {
     if c < 16 {
@@ -38,7 +39,7 @@ fn put_code(out: &mut [u8], at: usize, c: u8) -> usize
 
 // Puts the nybbles of the first n codes at the start of an output that has room for them.
 pub(crate) fn put_codes(codes: &Codes, n: usize, out: &mut [u8])
-    requires { ⌜ ((n ≤ 2400) × (length (now codes) ≡ 2400)) × (length (spread (take n (now codes))) ≤ length (nybbles (now out))) ⌝ }
+    requires { ⌜ ((n ≤ maxCodes) × (length (now codes) ≡ maxCodes)) × (length (spread (take n (now codes))) ≤ length (nybbles (now out))) ⌝ }
     ensures { λ _. ⌜ nybbles (now (out .exit)) ≡ sets (nybbles (now (out .entry))) 0 (spread (take n (now (codes .entry)))) ⌝ }
 {
     let mut at: usize = 0;

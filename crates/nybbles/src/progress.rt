@@ -28,6 +28,7 @@ fn has_room(mark: Mark, count: usize) -> bool
     }
 }
 
+// Whether a mark ends the list.
 pub(crate) fn is_expiry(mark: Mark) -> bool
     ensures { λ r. ⌜ r ≡ isExpiry mark ⌝ }
 {

@@ -16,10 +16,12 @@ ghost use lib.ListN.{length, take};
 ghost use lib.Seq.{sets};
 ghost use Rattle.schedule.specs.Schedule.{wellFormed, maxGap};
 ghost use Rattle.nybbles.specs.Write.{npOf, pair, monthsCode, sixesCode, sixes, gapCodes, plainCodes, halves, spread, padded, spelling};
-ghost use Rattle.nybbles.specs.Inner.{Holds};
+ghost use Rattle.nybbles.specs.Inner.{maxCodes, Holds};
 
-// Room for codes: each has a month at least, so there are at most 2400.
-pub(crate) type Codes = [u8; 2400];
+// Room for written codes: each has a month at least, so there are no more of them than months.
+pub(crate) const MAX_CODES: usize = 2400;
+
+pub(crate) type Codes = [u8; MAX_CODES];
 
 // 16 sixes with NP 00.
 const SIXTEEN: u8 = 0x8F;
@@ -66,7 +68,7 @@ fn sixes_code(np: u8, k: u32) -> u8
 
 // Writes the codes of k sixes at a place, and returns the place after them.
 fn put_sixes(codes: &mut Codes, at: usize, np: u8, k: u32) -> usize
-    requires { ⌜ ((np < 4) × (0 < k)) × (at + length (sixes np k) ≤ 2400) ⌝ }
+    requires { ⌜ ((np < 4) × (0 < k)) × (at + length (sixes np k) ≤ maxCodes) ⌝ }
     ensures { λ r. ⌜ (r ≡ at + length (sixes np k)) × (now (codes .exit) ≡ sets (now (codes .entry)) at (sixes np k)) ⌝ }
 {
     let mut n = at;
@@ -82,7 +84,7 @@ fn put_sixes(codes: &mut Codes, at: usize, np: u8, k: u32) -> usize
 
 // Writes the codes of a gap at a place, and returns the place after them.
 fn put_gap(codes: &mut Codes, at: usize, np: u8, gap: u32) -> usize
-    requires { ⌜ ((np < 4) × ((0 < gap) × (gap ≤ maxGap))) × (at + length (gapCodes np gap) ≤ 2400) ⌝ }
+    requires { ⌜ ((np < 4) × ((0 < gap) × (gap ≤ maxGap))) × (at + length (gapCodes np gap) ≤ maxCodes) ⌝ }
     ensures { λ r. ⌜ (r ≡ at + length (gapCodes np gap)) × (now (codes .exit) ≡ sets (now (codes .entry)) at (gapCodes np gap)) ⌝ }
 {
     if gap % 6 == 0 {
@@ -99,7 +101,7 @@ fn put_gap(codes: &mut Codes, at: usize, np: u8, gap: u32) -> usize
 
 // Writes the codes of a schedule, not evened yet, and returns their number.
 fn put_gaps(s: Schedule, codes: &mut Codes) -> usize
-    requires { ⌜ (wellFormed s ≡ true) × (length (now codes) ≡ 2400) ⌝ }
+    requires { ⌜ (wellFormed s ≡ true) × (length (now codes) ≡ maxCodes) ⌝ }
     ensures { λ r. ⌜ Holds (now (codes .exit)) r (plainCodes s) ⌝ }
 {
     let count = s.count;
@@ -126,7 +128,7 @@ fn code_size(c: u8) -> usize
 
 // How many nybbles the first n codes have.
 pub(crate) fn nybble_count(codes: &Codes, n: usize) -> usize
-    requires { ⌜ (n ≤ 2400) × (length (now codes) ≡ 2400) ⌝ }
+    requires { ⌜ (n ≤ maxCodes) × (length (now codes) ≡ maxCodes) ⌝ }
     ensures { λ r. ⌜ r ≡ length (spread (take n (now (codes .entry)))) ⌝ }
 {
     let mut count: usize = 0;
@@ -140,7 +142,7 @@ pub(crate) fn nybble_count(codes: &Codes, n: usize) -> usize
 
 // Puts a 9 before the last single nybble of the first n codes, if there is one.
 fn pad(codes: &mut Codes, n: usize)
-    requires { ⌜ (n ≤ 2400) × (length (now codes) ≡ 2400) ⌝ }
+    requires { ⌜ (n ≤ maxCodes) × (length (now codes) ≡ maxCodes) ⌝ }
     ensures { λ _. ⌜ Holds (now (codes .exit)) n (padded (take n (now (codes .entry)))) ⌝ }
 {
     let mut i = n;
@@ -156,7 +158,7 @@ fn pad(codes: &mut Codes, n: usize)
 
 // Writes the codes of a schedule, and returns their number.
 pub(crate) fn spell(s: Schedule, codes: &mut Codes) -> usize
-    requires { ⌜ (wellFormed s ≡ true) × (length (now codes) ≡ 2400) ⌝ }
+    requires { ⌜ (wellFormed s ≡ true) × (length (now codes) ≡ maxCodes) ⌝ }
     ensures { λ r. ⌜ Holds (now (codes .exit)) r (spelling s) ⌝ }
 {
     let n = put_gaps(s, codes);

@@ -51,7 +51,8 @@ returns-2 c =
     let passed = marked .before .before .before .before in
     let read = passed .before .before in
     let looped = read .before .before in
-    reading.refuses-more _ _ _ _ (looped .loop .inv) _ (read .code-at .ensures) _ (passed .before .fault-of .ensures) (passed .if1 .left) _ _ (marked .before .after-code .ensures) _ (marked .is-expiry .ensures) (c .before .before .if2 .taken)
+    reading.refuses-more _ _ _ _ (looped .loop .inv) _ (read .code-at .ensures) _ (passed .before .fault-of .ensures) (passed .if1 .left) _ _
+    (marked .before .after-code .ensures) _ (marked .is-expiry .ensures) (c .before .before .if2 .taken)
     (omega (arith, codes.count (looped .before .before .args .bytes .now), c .before .if3 .taken)) _ (c .refuse2 .ensures)
 
 -- the expiry and no nybble after it
@@ -61,7 +62,8 @@ returns-3 c =
     let passed = marked .before .before .before .before in
     let read = passed .before .before in
     let looped = read .before .before in
-    reading.accepts _ _ _ _ (looped .loop .inv) _ (read .code-at .ensures) _ (passed .before .fault-of .ensures) (passed .if1 .left) _ _ (marked .before .after-code .ensures) _ (marked .is-expiry .ensures) (c .before .before .if2 .taken)
+    reading.accepts _ _ _ _ (looped .loop .inv) _ (read .code-at .ensures) _ (passed .before .fault-of .ensures) (passed .if1 .left) _ _
+    (marked .before .after-code .ensures) _ (marked .is-expiry .ensures) (c .before .before .if2 .taken)
     (omega (arith, codes.count (looped .before .before .args .bytes .now), c .before .if3 .left)) _ (c .accept .ensures)
 
 loop-less : tie.Need-loop-less Inv-loop μ-loop
@@ -75,7 +77,8 @@ loop-again c =
     let marked = c .before in
     let passed = marked .before .before .before .before in
     let read = passed .before .before in
-    reading.reads-on _ _ _ _ (read .before .before .loop .inv) _ (read .code-at .ensures) _ (passed .before .fault-of .ensures) (passed .if1 .left) _ _ (marked .before .after-code .ensures) _ (marked .is-expiry .ensures) (c .if2 .left)
+    reading.reads-on _ _ _ _ (read .before .before .loop .inv) _ (read .code-at .ensures) _ (passed .before .fault-of .ensures) (passed .if1 .left) _ _
+    (marked .before .after-code .ensures) _ (marked .is-expiry .ensures) (c .if2 .left)
 
 -- no nybble left
 returns-4 : tie.Need-returns-4 Inv-loop μ-loop

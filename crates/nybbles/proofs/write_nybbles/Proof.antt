@@ -1,9 +1,7 @@
 -- `write_nybbles` meets its contract: one answer for a list that fits, one for a short output, one for a schedule that is not well formed.
 -- Assumes nothing.
-use mathlib.Core.Path.{_≡_, refl, sym, _∙_}
-use mathlib.Core.Bool.{true}
+use mathlib.Core.Path.{refl, sym, _∙_}
 use borrow.Author.Needs.{needs}
-use Rattle.schedule.specs.Schedule.{wellFormed}
 use Rattle.schedule.proofs.Answers as answers
 use Rattle.nybbles.proofs.Packed as packed
 use Rattle.nybbles.proofs.write_nybbles.Statement.{statement}

@@ -17,7 +17,8 @@ returns-2 c =
     let second = c .before .nybble-at2 .ensures in
     let large = c .before .before .before in
     let start = large .before .before .before in
-    codes.next-wide _ _ _ (start .pre .1) (large .before .nybble-at .ensures .0) (large .if1 .left) (omega (arith, codes.count (start .args .bytes .now))) _ (second .0) (second .1) _ (c .wide-code .ensures)
+    codes.next-wide _ _ _ (start .pre .1) (large .before .nybble-at .ensures .0) (large .if1 .left)
+    (omega (arith, codes.count (start .args .bytes .now))) _ (second .0) (second .1) _ (c .wide-code .ensures)
 
 -- the last nybble, of 8 or more
 returns-3 : tie.Need-returns-3
