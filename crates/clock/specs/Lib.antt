@@ -5,5 +5,4 @@ pub mod Document002
 pub mod Known
 pub mod Question
 pub mod Answers
-pub mod Table
 pub mod Inner

@@ -51,6 +51,10 @@ fn last_leap(name: &[u8], s: Schedule) {
     put(b"\n");
 }
 
+fn wide(x: u8) -> u64 {
+    x as u64
+}
+
 // The nybbles of a schedule in hex: the writer's number, then the bytes.
 fn written(name: &[u8], s: Schedule) {
     put(name);
@@ -62,7 +66,7 @@ fn written(name: &[u8], s: Schedule) {
     let mut i: usize = 0;
     while i < 64 {
         if i < n {
-            io::print_hex(1, out[i] as u64, 2);
+            io::print_hex(1, wide(out[i]), 2);
         }
         i += 1;
     }
@@ -131,6 +135,105 @@ fn uts(name: &[u8], s: Schedule, day: u64, micros: u64) {
     put(b"\n");
 }
 
+// P1 to P9: readings.
+fn readings() {
+    text(b"P1", b"5?");
+    text(b"P2", b"");
+    text(b"P3", b"06+5?");
+    text(b"P4", b"1000?");
+    text(b"P5", b"999?");
+    text(b"P6", b"5?\n");
+    nybbles(b"P7", b"\xF4");
+    nybbles(b"P8", b"\x0F");
+    nybbles(b"P9", b"\x9D");
+}
+
+// P10 to P12: smoothed time on the day of the leap.
+fn smoothed(plus: Schedule, minus: Schedule) {
+    uts(b"P10", plus, 41498, 86_400_000_000);
+    uts(b"P11", plus, 41498, 85_401_000_000);
+    uts(b"P11", plus, 41498, 85_402_000_000);
+    uts(b"P12", minus, 41498, 86_398_000_000);
+    uts(b"P12", minus, 41498, 86_399_000_000);
+}
+
+// Month starts: the first and the last of the table, and those of list B's last leap and expiry.
+fn months() {
+    month(b"month 0", 0);
+    month(b"month 2400", 2400);
+    month(b"month 540", 540);
+    month(b"month 599", 599);
+}
+
+fn list_a() {
+    let list = b"6+6+12+12+12+12+12+12+12+18+12+12+24+30+24+12+18+12+12+5?";
+    text(b"A", list);
+    let r = text::read_text(list);
+    let s = r.schedule;
+    last_leap(b"A last", s);
+    dtai(b"A DTAI", s, calendar::month_start(270));
+    written(b"A nybbles", s);
+}
+
+fn list_b() {
+    let list = b"\x00\x11\x11\x11\x12\x11\x34\x31\x21\x12\x22\x9D\x56\x52\x87\xFA";
+    nybbles(b"B", list);
+    let r = nybbles::read_nybbles(list);
+    let s = r.schedule;
+    last_leap(b"B last", s);
+    dtai(b"B DTAI", s, 57754);
+    dtai(b"B DTAI", s, 57753);
+    dtai(b"B DTAI", s, 59548);
+    uts(b"B UTS", s, 59548, 85_399_000_000);
+    tai(b"B TAI", s, 59548, 85_399_000_000);
+}
+
+// The first table of document 002, at a day that ends with an inserted second, and the start of the next day.
+fn inserted(s: Schedule) {
+    uts(b"inserted", s, 41498, 85_400_000_000);
+    uts(b"inserted", s, 41498, 85_401_000_000);
+    uts(b"inserted", s, 41498, 85_402_000_000);
+    uts(b"inserted", s, 41498, 85_403_000_000);
+    uts(b"inserted", s, 41498, 85_404_000_000);
+    uts(b"inserted", s, 41498, 86_399_000_000);
+    uts(b"inserted", s, 41498, 86_400_000_000);
+    uts(b"inserted", s, 41499, 0);
+    uts(b"inserted", s, 41499, 1_000_000);
+}
+
+// The second, at a day that ends with a deleted second.
+fn deleted(s: Schedule) {
+    uts(b"deleted", s, 41498, 85_398_000_000);
+    uts(b"deleted", s, 41498, 85_399_000_000);
+    uts(b"deleted", s, 41498, 85_400_000_000);
+    uts(b"deleted", s, 41498, 85_401_000_000);
+    uts(b"deleted", s, 41498, 85_402_000_000);
+    uts(b"deleted", s, 41498, 85_403_000_000);
+    uts(b"deleted", s, 41498, 86_398_000_000);
+    uts(b"deleted", s, 41499, 0);
+    uts(b"deleted", s, 41499, 1_000_000);
+}
+
+// TAI at the first instant of 1972, and the one instant of it; DTAI in the inserted second is the old one.
+fn atomic(s: Schedule) {
+    tai(b"1972 TAI", s, 41317, 0);
+    utc(b"1972 UTC", s, 10_000_000);
+    tai(b"leap TAI", s, 41498, 86_400_000_000);
+    tai(b"next TAI", s, 41499, 0);
+}
+
 fn main() {
-    put(b"start\n");
+    readings();
+    let plus = text::read_text(b"6+5?").schedule;
+    let minus = text::read_text(b"6-5?").schedule;
+    smoothed(plus, minus);
+    months();
+    list_a();
+    list_b();
+    text(b"N", b"6-5?");
+    let whole = text::read_text(b"999?").schedule;
+    written(b"999", whole);
+    inserted(plus);
+    deleted(minus);
+    atomic(plus);
 }
