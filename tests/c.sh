@@ -1,0 +1,38 @@
+#!/usr/bin/env bash
+# The header and the archive from C: the header alone, its example, every call on
+# good and bad input, and the stack that each call uses.
+source "$(dirname "${BASH_SOURCE[0]}")/common.sh"
+
+alone() {
+    local compiler=$1 language=$2 standard=$3
+    quietly "leap.h alone as $standard" \
+        "$compiler" "-std=$standard" "${strict[@]}" -x "$language" -fsyntax-only "$root/include/leap.h"
+    ok "header: alone as $standard"
+}
+alone gcc c c99
+alone gcc c c17
+alone g++ c++ c++98
+alone g++ c++ c++17
+
+# The example stands in the header's first comment, indented by five.
+{
+    printf '#include <assert.h>\n#include <stdio.h>\n#include "leap.h"\nint main(void)\n{\n'
+    sed -n '/^#/q; s/^ \*     //p' "$root/include/leap.h"
+    printf 'return no;\n}\n'
+} >"$built/example.c"
+grep -q leap_read_text "$built/example.c" || fail "the header has no example"
+quietly "the header's example does not compile" gcc -std=c99 "${strict[@]}" \
+    "$built/example.c" "$LEAP_LIB_DIR/libleap.a" -o "$built/example"
+quietly "the header's example" "$built/example"
+ok "header: its example"
+
+compiled header -g -fsanitize=address,undefined
+quietly "header" "$built/header"
+count_oks header
+
+# Bound at once, since the binding of a library call would use stack of its own.
+compiled stack -O2 -pthread -Wl,-z,now
+quietly "stack" "$built/stack"
+count_oks stack
+
+finish
