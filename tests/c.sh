@@ -1,7 +1,7 @@
 #!/usr/bin/env bash
 # The header and the archive from C: the header alone, its example, every call on
 # good and bad input, and the stack that each call uses.
-source "$(dirname "${BASH_SOURCE[0]}")/common.sh"
+source "$(dirname "${BASH_SOURCE[0]}")/common.bash"
 
 alone() {
     local compiler=$1 language=$2 standard=$3
@@ -26,9 +26,11 @@ quietly "the header's example does not compile" gcc -std=c99 "${strict[@]}" \
 quietly "the header's example" "$built/example"
 ok "header: its example"
 
-compiled header -g -fsanitize=address,undefined
-quietly "header" "$built/header"
-count_oks header
+for test in lists times malformed; do
+    compiled "$test" -g -fsanitize=address,undefined
+    quietly "$test" "$built/$test"
+    count_oks "$test"
+done
 
 # Bound at once, since the binding of a library call would use stack of its own.
 compiled stack -O2 -pthread -Wl,-z,now

@@ -1,7 +1,7 @@
 #!/usr/bin/env bash
 # The archive against the second program, call by call. Arguments, if any, are
 # the number of calls and the seed.
-source "$(dirname "${BASH_SOURCE[0]}")/common.sh"
+source "$(dirname "${BASH_SOURCE[0]}")/common.bash"
 
 cd "$root/rust"
 quietly "cargo test of compare" cargo test --offline --locked --release -p compare

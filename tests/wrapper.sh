@@ -1,7 +1,7 @@
 #!/usr/bin/env bash
 # The tests of the Rust wrapper, its documentation's examples among them, and of
 # the second program.
-source "$(dirname "${BASH_SOURCE[0]}")/common.sh"
+source "$(dirname "${BASH_SOURCE[0]}")/common.bash"
 
 cd "$root/rust"
 for crate in leap second; do
