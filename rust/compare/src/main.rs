@@ -3,7 +3,8 @@
 //! that they may change. Where they differ it prints the smallest case that it
 //! finds, as a test to paste, and ends with status 1.
 //!
-//! The calls follow from the seed alone.
+//! The calls follow from the seed alone. With COMPARE_TRACE set, each is shown
+//! before it is made: the last one shown is the one that stopped the program.
 
 mod call;
 mod lists;
@@ -81,6 +82,9 @@ const PROGRAMS: [(&str, Program); 2] = [("the archive", archive), ("the second p
 
 /// Compares the outcomes of a call, and counts it.
 fn compare(call: &Call, tally: &mut Tally) -> Result<(), String> {
+    if std::env::var_os("COMPARE_TRACE").is_some() {
+        eprint!("{}", paste::made(call));
+    }
     let expected = second(call);
     if archive(call) != expected {
         let smallest = shrink(call.clone(), Call::differs);

@@ -154,6 +154,11 @@ pub fn call(call: &Call) -> String {
     test(&format!("{}_as_the_second_program", call.name()), lines)
 }
 
+/// A call, to be looked at before it is made.
+pub fn made(call: &Call) -> String {
+    test(call.name(), call_lines(call, "_got"))
+}
+
 /// Two calls that one program answers against demand 3.
 fn two_calls(name: &str, calls: &[Call; 2], program: Program, claim: [&str; 2]) -> String {
     let mut lines = Vec::new();

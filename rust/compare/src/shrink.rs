@@ -135,22 +135,26 @@ fn moved(question: Question, edit: Edit) -> Vec<Question> {
     }
 }
 
-fn smaller_questions(question: Question) -> Vec<Question> {
-    let first = |first| Question { first, ..question };
-    let second = |second| Question { second, ..question };
-    let rounded = [1_000_000_000, 1_000_000, 1_000].map(|unit| question.second / unit * unit);
-    lower(question.second)
-        .into_iter()
-        .chain(rounded.into_iter().filter(|&r| r < question.second))
-        .map(second)
-        .chain(
-            [41_317]
-                .into_iter()
-                .filter(|&d| d < question.first)
-                .map(first),
-        )
-        .chain(lower(question.first).into_iter().map(first))
-        .collect()
+/// Lower times of day: whole seconds, milliseconds and microseconds first, then
+/// any.
+fn lower_times(time: u64) -> impl Iterator<Item = u64> {
+    let units = [1_000_000_000, 1_000_000, 1_000].into_iter();
+    units
+        .flat_map(move |unit| {
+            let below = lower(time / unit).into_iter();
+            below.chain([time / unit]).map(move |count| count * unit)
+        })
+        .filter(move |&lower| lower < time)
+        .chain(lower(time))
+}
+
+fn smaller_questions(question: Question) -> impl Iterator<Item = Question> {
+    let days = [41_317].into_iter().filter(move |&d| d < question.first);
+    let times = lower_times(question.second).map(move |second| Question { second, ..question });
+    times.chain(
+        days.chain(lower(question.first))
+            .map(move |first| Question { first, ..question }),
+    )
 }
 
 impl Shrink for Call {
@@ -182,7 +186,7 @@ impl Shrink for Call {
                     let ask = move |question| Call::Ask(words.clone(), question);
                     moved(*question, edit).into_iter().map(ask)
                 });
-                let numbers = smaller_questions(*question).into_iter();
+                let numbers = smaller_questions(*question);
                 Box::new(fewer.chain(numbers.map(|q| Call::Ask(words.clone(), q))))
             }
         }
@@ -208,7 +212,7 @@ impl Shrink for Pair {
             shorter: edited(&self.shorter, edit),
             ..self.clone()
         });
-        let numbers = smaller_questions(self.question).into_iter();
+        let numbers = smaller_questions(self.question);
         let asked = numbers.map(|question| Pair {
             question,
             ..self.clone()
