@@ -72,9 +72,9 @@ const SOURCES: [Source; 23] = [
     Source { name: "malformed, unused place", share: 2, make: Words(schedules::bad_unused) },
     Source { name: "malformed, gap", share: 4, make: Words(schedules::bad_gap) },
     Source { name: "malformed, expiry", share: 3, make: Words(schedules::bad_expiry) },
-    Source { name: "pairs, extended", share: 3, make: Extension(pairs::extended) },
-    Source { name: "pairs, cut short", share: 2, make: Extension(pairs::cut_short) },
-    Source { name: "pairs, contradicting", share: 2, make: Contradiction(pairs::contradicting) },
+    Source { name: "pairs, extended", share: 8, make: Extension(pairs::extended) },
+    Source { name: "pairs, cut short", share: 6, make: Extension(pairs::cut_short) },
+    Source { name: "pairs, contradicting", share: 4, make: Contradiction(pairs::contradicting) },
 ];
 
 /// Both programs, by name.
@@ -147,14 +147,14 @@ fn use_extension(make: MakePair, random: &mut Random, tally: &mut Tally) -> Resu
 /// Asks two contradicting lists for the DTAI by which they part.
 fn use_contradiction(make: MakePair, random: &mut Random, tally: &mut Tally) -> Result<(), String> {
     let (one, other) = make(random);
-    if let Some(month) = pairs::parting(&one, &other) {
-        for call in pairs::parting_calls(&one, &other, month) {
-            compare(&call, tally)?;
-        }
+    for call in Pair::of(&one, &other).parting_calls().iter().flatten() {
+        compare(call, tally)?;
     }
     for (name, program) in PROGRAMS {
-        if pairs::not_parted(&one, &other, program) {
-            let test = paste::not_parted(&one, &other, program);
+        let pair = Pair::of(&one, &other);
+        if pair.not_parted(program) {
+            let smallest = shrink(pair, |p| p.not_parted(program));
+            let test = paste::not_parted(&smallest, program);
             return Err(format!("{name} does not tell two lists apart:\n\n{test}"));
         }
     }

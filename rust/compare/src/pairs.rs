@@ -39,6 +39,19 @@ pub struct Pair {
 }
 
 impl Pair {
+    /// Two lists, and no question in particular.
+    pub fn of(longer: &Words, shorter: &Words) -> Pair {
+        Pair {
+            longer: Box::new(*longer),
+            shorter: Box::new(*shorter),
+            question: Question {
+                kind: Kind::Dtai,
+                first: 0,
+                second: 0,
+            },
+        }
+    }
+
     /// Whether the longer list does extend the shorter, and does not keep what
     /// the program says under it.
     pub fn broken(&self, program: Program) -> bool {
@@ -52,6 +65,33 @@ impl Pair {
     pub fn calls(&self) -> [Call; 2] {
         [&self.longer, &self.shorter].map(|words| Call::Ask(words.clone(), self.question))
     }
+
+    /// DTAI under both lists on the first day that they part.
+    pub fn parting_calls(&self) -> Option<[Call; 2]> {
+        let month = parting(&self.longer, &self.shorter)?;
+        let question = Question {
+            first: month_start(month),
+            ..Pair::of(&self.longer, &self.shorter).question
+        };
+        let pair = Pair {
+            question,
+            ..self.clone()
+        };
+        Some(pair.calls())
+    }
+
+    /// Whether neither list extends the other, and the program gives no two
+    /// DTAI on the day that they part.
+    pub fn not_parted(&self, program: Program) -> bool {
+        let (one, other) = (&self.longer, &self.shorter);
+        if !is_list(one) || !is_list(other) || extends(one, other) || extends(other, one) {
+            return false;
+        }
+        self.parting_calls().is_none_or(|calls| {
+            let [a, b] = calls.map(|call| program(&call));
+            (a.number, b.number) != (0, 0) || a.values == b.values
+        })
+    }
 }
 
 /// Whether an outcome under a list may be followed by that one under a longer:
@@ -62,29 +102,6 @@ fn kept(shorter: &Outcome, longer: &Outcome) -> bool {
         10 => [0, 9, 10].contains(&longer.number),
         _ => false,
     }
-}
-
-/// DTAI under both lists on the day that they part.
-pub fn parting_calls(one: &Words, other: &Words, month: u32) -> [Call; 2] {
-    let question = Question {
-        kind: Kind::Dtai,
-        first: month_start(month),
-        second: 0,
-    };
-    [one, other].map(|words| Call::Ask(Box::new(*words), question))
-}
-
-/// Whether neither list extends the other, and the program gives no two DTAI
-/// on the day that they part.
-pub fn not_parted(one: &Words, other: &Words, program: Program) -> bool {
-    if !is_list(one) || !is_list(other) || extends(one, other) || extends(other, one) {
-        return false;
-    }
-    let Some(month) = parting(one, other) else {
-        return true;
-    };
-    let [a, b] = parting_calls(one, other, month).map(|call| program(&call));
-    (a.number, b.number) != (0, 0) || a.values == b.values
 }
 
 /// A well-formed schedule by repeated trial.

@@ -2,10 +2,8 @@
 
 use std::fmt::Display;
 
-use leap::ffi::Words;
-
 use crate::call::{archive, second, Call, Kind, Outcome, Program, FILL, FILL_DTAI, GUARD};
-use crate::pairs::{parting, parting_calls, Pair};
+use crate::pairs::Pair;
 
 /// A test of that name with these lines in it.
 fn test(name: &str, lines: Vec<String>) -> String {
@@ -181,10 +179,10 @@ pub fn not_kept(pair: &Pair, program: Program) -> String {
 
 /// Two lists, of which neither extends the other, without a DTAI to tell them
 /// apart.
-pub fn not_parted(one: &Words, other: &Words, program: Program) -> String {
-    let Some(month) = parting(one, other) else {
-        let mut lines = words_lines("one", one);
-        lines.extend(words_lines("other", other));
+pub fn not_parted(pair: &Pair, program: Program) -> String {
+    let Some(calls) = pair.parting_calls() else {
+        let mut lines = words_lines("one", &pair.longer[..]);
+        lines.extend(words_lines("other", &pair.shorter[..]));
         lines.push("// Neither extends the other, and no month parts them.".into());
         return test("contradictions_show", lines);
     };
@@ -192,6 +190,5 @@ pub fn not_parted(one: &Words, other: &Words, program: Program) -> String {
         "// Neither list extends the other.",
         "assert!((first.0, other.0) == (0, 0) && first.1 != other.1);",
     ];
-    let calls = parting_calls(one, other, month);
     two_calls("contradictions_show", &calls, program, claim)
 }

@@ -153,70 +153,81 @@ pub fn any(random: &mut Random) -> Box<Words> {
     }
 }
 
-/// A list with a used place and an unused one.
+/// A list with an unused place.
 fn with_room(random: &mut Random) -> Box<Words> {
     loop {
         let words = any(random);
-        if (1..MAX_LEAPS as u32).contains(&words[COUNT]) {
+        if words[COUNT] < MAX_LEAPS as u32 {
             return words;
         }
     }
 }
 
-/// The index of a used place's month word, and of an unused one's.
-fn places(random: &mut Random, words: &Words) -> (usize, usize) {
+/// The index of an unused place's month word: often the first or the last one.
+fn unused_place(random: &mut Random, words: &Words) -> usize {
     let count = words[COUNT] as usize;
-    let (any_used, any_unused) = (random.below(count), random.below(MAX_LEAPS - count));
-    let used = random.pick(&[0, count - 1, any_used]);
-    let unused = random.pick(&[count, MAX_LEAPS - 1, count + any_unused]);
-    (2 * used, 2 * unused)
+    let any = count + random.below(MAX_LEAPS - count);
+    2 * random.pick(&[count, MAX_LEAPS - 1, any])
+}
+
+/// The index of a used place's month word, if there is one and by chance.
+fn used_place(random: &mut Random, words: &Words) -> Option<usize> {
+    let count = words[COUNT] as usize;
+    if count == 0 || random.one_in(2) {
+        return None;
+    }
+    let any = random.below(count);
+    Some(2 * random.pick(&[0, count - 1, any]))
 }
 
 /// A count that is over 256, or not the number of leaps.
 pub fn bad_count(random: &mut Random) -> Box<Words> {
+    if random.one_in(8) {
+        let mut words = dense(random);
+        words[COUNT] = random.pick(&[257, 258, 512, 65_536 + 256, u32::MAX]);
+        return words;
+    }
     let mut words = with_room(random);
     let count = words[COUNT];
     words[COUNT] = match random.below(7) {
         0 => 257,
         1 => u32::MAX,
         2 => 65_536 + count,
-        3 => 256 + count,
+        3 => 257 + count,
         4 => 1 << 31 | count,
-        5 => count + 1,
-        _ => count - 1,
+        5 if count > 0 => count - 1,
+        _ => count + 1,
     };
-    if random.one_in(8) {
-        words = dense(random);
-        words[COUNT] = random.pick(&[257, 258, 512, 65_536 + 256, u32::MAX]);
-    }
     words
 }
 
 /// A sign word other than 0 or 1 in a used place, or than 0 in an unused one.
 pub fn bad_sign(random: &mut Random) -> Box<Words> {
+    const OTHERS: [u32; 8] = [1, 2, 3, 256, 65_536, 65_537, 1 << 31, u32::MAX];
     let mut words = with_room(random);
-    let (used, unused) = places(random, &words);
-    let others = [2, 3, 256, 65_536, 65_537, 1 << 31, u32::MAX];
-    if random.one_in(2) {
-        words[used + 1] = random.pick(&others);
-    } else {
-        words[unused + 1] = random.pick(&[[1].as_slice(), &others].concat());
+    match used_place(random, &words) {
+        Some(used) => words[used + 1] = random.pick(&OTHERS[1..]),
+        None => {
+            let unused = unused_place(random, &words);
+            words[unused + 1] = random.pick(&OTHERS);
+        }
     }
     words
 }
 
-/// A month word that is over 16 bits, in a used place or an unused one.
+/// A month word that is over 2400 or over 16 bits, in a used place or not.
 pub fn bad_month(random: &mut Random) -> Box<Words> {
     let mut words = with_room(random);
-    let (used, unused) = places(random, &words);
-    let place = random.pick(&[used, unused]);
+    let place = used_place(random, &words);
+    let place = place.unwrap_or_else(|| unused_place(random, &words));
+    let valid = random.pick(&[words[place], words[0]]);
     words[place] = match random.below(6) {
         0 => 65_536,
         1 => u32::MAX,
-        2 => 65_536 + words[used],
-        3 => 1 << 31 | words[used],
+        2 => 65_536 + valid,
+        3 => 1 << 31 | valid,
         4 => LAST_MONTH + 1,
-        _ => 65_536 * random.from(1, 65_535) + words[place],
+        _ => 65_536 * random.from(1, 65_535) + valid,
     };
     words
 }
@@ -224,7 +235,7 @@ pub fn bad_month(random: &mut Random) -> Box<Words> {
 /// An unused place with a month that would be in order.
 pub fn bad_unused(random: &mut Random) -> Box<Words> {
     let mut words = with_room(random);
-    let (_, unused) = places(random, &words);
+    let unused = unused_place(random, &words);
     words[unused] = match random.below(4) {
         0 => 1,
         1 => words[EXPIRY],
