@@ -22,7 +22,7 @@ fn near_a_limit(random: &mut Random) -> Vec<(u32, Mark)> {
     let leaps = random.pick(&[0, 1, 2, 3, 100, 254, 255, 256, 257, 258, 300]);
     let stop = random.pick(&[2_398, 2_399, 2_400, 2_401, 2_402, 3_000]);
     let widest = if leaps > 200 {
-        random.pick(&[1, 6, 9, 16, 17])
+        random.pick(&[1, 9, 15, 16, 17])
     } else {
         999
     };
