@@ -1,6 +1,6 @@
 #!/usr/bin/env bash
-# The header and the archive from C: the header alone, its example, every call on
-# good and bad input, and the stack that each call uses.
+# The header and the archive from C: the header alone, its example, what the
+# archive holds, every call on good and bad input, and the stack that each uses.
 source "$(dirname "${BASH_SOURCE[0]}")/common.bash"
 
 alone() {
@@ -25,6 +25,16 @@ quietly "the header's example does not compile" gcc -std=c99 "${strict[@]}" \
     "$built/example.c" "$LEAP_LIB_DIR/libleap.a" -o "$built/example"
 quietly "the header's example" "$built/example"
 ok "header: its example"
+
+declared=$(sed -n 's/^uint8_t \(leap_[a-z_]*\)(.*/\1/p' "$root/include/leap.h" | sort)
+defined=$(nm -g --defined-only "$LEAP_LIB_DIR/libleap.a" | awk 'NF == 3 { print $3 }' | sort)
+[ -n "$declared" ] && [ "$declared" = "$defined" ] \
+    || fail "the header declares ${declared//$'\n'/ }, the archive defines ${defined//$'\n'/ }"
+ok "archive: the header's functions and no others"
+
+size "$LEAP_LIB_DIR/libleap.a" | awk 'NR > 1 { sum += $2 + $3; n++ } END { exit !n || sum }' \
+    || fail "the archive has data that can change"
+ok "archive: no data that can change, so no state"
 
 for test in lists times malformed; do
     compiled "$test" -g -fsanitize=address,undefined

@@ -1,5 +1,7 @@
 //! The schedule and what it can be asked.
 
+use std::fmt;
+
 use crate::ffi::{self, Words};
 use crate::refusal::{ReadError, Refusal};
 
@@ -48,7 +50,7 @@ const NYBBLES_ROOM: usize = 390;
 
 /// Leaps and an expiry month, well formed or not. Where it is not, every
 /// question is refused with [`Refusal::NotWellFormed`].
-#[derive(Clone, Debug, PartialEq, Eq)]
+#[derive(Clone, PartialEq, Eq)]
 pub struct Schedule {
     words: Box<Words>,
 }
@@ -261,6 +263,16 @@ impl Schedule {
         let mut micros = 0;
         answer(ffi::uts_to_utc(&self.words, day.0, uts.0, &mut micros))?;
         Ok(UtcMicros(micros))
+    }
+}
+
+/// Shows the text list, or all words where there is none.
+impl fmt::Debug for Schedule {
+    fn fmt(&self, f: &mut fmt::Formatter<'_>) -> fmt::Result {
+        match self.to_text() {
+            Ok(list) => write!(f, "Schedule({list})"),
+            Err(_) => write!(f, "Schedule({:?})", self.words),
+        }
     }
 }
 

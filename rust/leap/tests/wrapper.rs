@@ -190,6 +190,7 @@ fn parts_are_checked_by_every_question() {
     let good = Schedule::new(&[positive(6)], 11);
     assert_eq!(good, text(b"6+5?"));
     assert_eq!(good.check(), Ok(()));
+    assert_eq!(format!("{good:?}"), "Schedule(6+5?)");
 
     let mut sign_two = *good.words();
     sign_two[1] = 2;
