@@ -91,6 +91,7 @@ fn micros(random: &mut Random) -> u64 {
         86_400 * SECOND,
         86_401 * SECOND,
     ];
+    const STEPS: [i64; 9] = [-1_000_000, -500_000, -1, 0, 0, 1, 1_000, 500_000, 1_000_000];
     match random.below(10) {
         0 => random.any_size(),
         1 => random.pick(&[
@@ -106,12 +107,12 @@ fn micros(random: &mut Random) -> u64 {
         5 => (85_398 + random.bits() % 1_004) * SECOND,
         _ => {
             let edge = random.pick(&EDGES);
-            near(random, edge, &[-1, 0, 0, 1, -1_000_000, 1_000_000])
+            near(random, edge, &STEPS)
         }
     }
 }
 
-/// UTS nanoseconds of a day: a multiple of 1000 or an instant's own, or by.
+/// UTS nanoseconds of a day: 1000 x UTC, or the UTS of an instant, or close by.
 fn nanos(random: &mut Random, words: &Words, mjd: u64) -> u64 {
     let micros = micros(random);
     let uts = match second::utc_to_uts(&second::Raw::from_words(words), mjd, micros) {
