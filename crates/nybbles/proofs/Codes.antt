@@ -19,24 +19,24 @@ unfolding nybbles
 count [] = refl
 count (b ∷ bs) = let i = count bs in omega arith
 
--- the nybble at a place is a half of the byte there
-pub upper : (bs : List ℕ) (at k : ℕ) → at ≡ 2 * k → getD (nybbles bs) at 0 ≡ getD bs k 0 / 16
+-- the nybbles at two places are the halves of the byte there
+two-halves : (bs : List ℕ) (at k : ℕ) → at ≡ 2 * k → (getD (nybbles bs) at 0 ≡ getD bs k 0 / 16) × (getD (nybbles bs) (suc at) 0 ≡ getD bs k 0 % 16)
 unfolding nybbles
-upper [] at k e = refl
-upper (b ∷ bs) zero zero e = refl
-upper (b ∷ bs) zero (suc k) e = absurd (omega arith)
-upper (b ∷ bs) (suc zero) k e = absurd (omega arith)
-upper (b ∷ bs) (suc (suc a)) zero e = absurd (omega arith)
-upper (b ∷ bs) (suc (suc a)) (suc k) e = upper bs a k (omega arith)
+two-halves [] at k e = (refl, refl)
+two-halves (b ∷ bs) zero zero e = (refl, refl)
+two-halves (b ∷ bs) zero (suc k) e = absurd (omega arith)
+two-halves (b ∷ bs) (suc zero) k e = absurd (omega arith)
+two-halves (b ∷ bs) (suc (suc a)) zero e = absurd (omega arith)
+two-halves (b ∷ bs) (suc (suc a)) (suc k) e = two-halves bs a k (omega arith)
 
-pub lower : (bs : List ℕ) (at k : ℕ) → at ≡ 2 * k + 1 → getD (nybbles bs) at 0 ≡ getD bs k 0 % 16
-unfolding nybbles
-lower [] at k e = refl
-lower (b ∷ bs) zero k e = absurd (omega arith)
-lower (b ∷ bs) (suc zero) zero e = refl
-lower (b ∷ bs) (suc zero) (suc k) e = absurd (omega arith)
-lower (b ∷ bs) (suc (suc a)) zero e = absurd (omega arith)
-lower (b ∷ bs) (suc (suc a)) (suc k) e = lower bs a k (omega arith)
+module _ (bs : List ℕ) (at k : ℕ) where
+  pub upper : at ≡ 2 * k → getD (nybbles bs) at 0 ≡ getD bs k 0 / 16
+  upper e = two-halves bs at k e .0
+
+  pub lower : at ≡ 2 * k + 1 → getD (nybbles bs) at 0 ≡ getD bs k 0 % 16
+  lower e =
+      let q : at ≡ suc (2 * k) = omega arith in
+      rw q (two-halves bs (2 * k) k refl .1)
 
 -- the three ways in which a code stands first
 pub codes-single : (n : ℕ) (ns : List ℕ) → n < 8 → codesOf (n ∷ ns) ≡ single n ∷ codesOf ns

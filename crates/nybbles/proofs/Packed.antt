@@ -8,7 +8,7 @@ use native.Mathlib.Numerals.{add-one}
 use native.Mathlib.Omega.{arith}
 use lib.Dec.{ltb}
 use lib.ListN.{length, getD, take, drop, set}
-use lib.Seq.{sets, length-sets}
+use lib.Seq.{sets, length-sets, getD-set-other, set-getD}
 use borrow.Author.Tests.{lt-ltb, le-ltb}
 use Rattle.schedule.specs.declared.Schedule.{Schedule}
 use Rattle.schedule.specs.Schedule.{wellFormed}
@@ -17,36 +17,11 @@ use Rattle.schedule.proofs.Stores.{sets-append}
 use Rattle.nybbles.specs.Codes.{nybbles}
 use Rattle.nybbles.specs.Write.{halves, spread, pack, plainCodes, spelling, nybblesOf}
 use Rattle.nybbles.specs.Inner.{Holds}
-use Rattle.nybbles.proofs.Codes.{All, more, count}
+use Rattle.nybbles.proofs.Codes.{All, more, count, upper, lower}
 use Rattle.nybbles.proofs.Evened.{halves-few, halves-length, spread-next, spread-end}
 use Rattle.nybbles.proofs.Division.{IsNybble, spelling-all, spread-all, evened-even, no-nybble-lost}
 
--- the upper half of a byte, and the lower one
-pub put-upper : (bs : List ℕ) (at k n : ℕ) → at ≡ 2 * k → nybbles (set bs k (n * 16 + getD bs k 0 % 16)) ≡ set (nybbles bs) at n
-unfolding nybbles
-put-upper [] at k n e = refl
-put-upper (b ∷ bs) zero zero n e =
-    let x : (n * 16 + b % 16) / 16 ≡ n = omega arith in
-    let y : (n * 16 + b % 16) % 16 ≡ b % 16 = omega arith in
-    rw (x, y)
-put-upper (b ∷ bs) zero (suc k) n e = absurd (omega arith)
-put-upper (b ∷ bs) (suc zero) k n e = absurd (omega arith)
-put-upper (b ∷ bs) (suc (suc a)) zero n e = absurd (omega arith)
-put-upper (b ∷ bs) (suc (suc a)) (suc k) n e = rw (put-upper bs a k n (omega arith))
-
-pub put-lower : (bs : List ℕ) (at k n : ℕ) → at ≡ 2 * k + 1 → n < 16 → nybbles (set bs k (getD bs k 0 / 16 * 16 + n)) ≡ set (nybbles bs) at n
-unfolding nybbles
-put-lower [] at k n e h = refl
-put-lower (b ∷ bs) zero k n e h = absurd (omega arith)
-put-lower (b ∷ bs) (suc zero) zero n e h =
-    let x : (b / 16 * 16 + n) / 16 ≡ b / 16 = omega arith in
-    let y : (b / 16 * 16 + n) % 16 ≡ n = omega arith in
-    rw (x, y)
-put-lower (b ∷ bs) (suc zero) (suc k) n e h = absurd (omega arith)
-put-lower (b ∷ bs) (suc (suc a)) zero n e h = absurd (omega arith)
-put-lower (b ∷ bs) (suc (suc a)) (suc k) n e h = rw (put-lower bs a k n (omega arith) h)
-
--- a whole byte
+-- a whole byte put, which is its two nybbles put
 put-byte : (bs : List ℕ) (at k m n : ℕ) → at ≡ 2 * k → n < 16 → nybbles (set bs k (m * 16 + n)) ≡ set (set (nybbles bs) at m) (suc at) n
 unfolding nybbles
 put-byte [] at k m n e h = refl
@@ -58,6 +33,21 @@ put-byte (b ∷ bs) zero (suc k) m n e h = absurd (omega arith)
 put-byte (b ∷ bs) (suc zero) k m n e h = absurd (omega arith)
 put-byte (b ∷ bs) (suc (suc a)) zero m n e h = absurd (omega arith)
 put-byte (b ∷ bs) (suc (suc a)) (suc k) m n e h = rw (put-byte bs a k m n (omega arith) h)
+
+-- the upper half of a byte put, and the lower one: the other half stays
+module _ (bs : List ℕ) (at k n : ℕ) where
+  pub put-upper : at ≡ 2 * k → nybbles (set bs k (n * 16 + getD bs k 0 % 16)) ≡ set (nybbles bs) at n
+  put-upper e =
+      let ns = set (nybbles bs) at n in
+      let low : getD ns (suc at) 0 ≡ getD bs k 0 % 16 = getD-set-other (nybbles bs) at (suc at) n 0 (λ q. omega arith) ∙ lower bs (suc at) k (omega arith) in
+      put-byte bs at k n (getD bs k 0 % 16) e (omega arith) ∙ (ap (set ns (suc at)) (sym low) ∙ set-getD ns (suc at) 0)
+
+  pub put-lower : at ≡ 2 * k + 1 → n < 16 → nybbles (set bs k (getD bs k 0 / 16 * 16 + n)) ≡ set (nybbles bs) at n
+  put-lower e h =
+      let ns = nybbles bs in
+      let high : set ns (2 * k) (getD bs k 0 / 16) ≡ ns = ap (set ns (2 * k)) (sym (upper bs (2 * k) k refl)) ∙ set-getD ns (2 * k) 0 in
+      let q : suc (2 * k) ≡ at = omega arith in
+      put-byte bs (2 * k) k (getD bs k 0 / 16) n refl h ∙ rw (high, q)
 
 -- packed nybbles stored as bytes
 put-pack : (ns bs : List ℕ) (at k : ℕ) → at ≡ 2 * k → length ns % 2 ≡ 0 → All IsNybble ns → nybbles (sets bs k (pack ns)) ≡ sets (nybbles bs) at ns
