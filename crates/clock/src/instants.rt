@@ -1,7 +1,7 @@
-// What a date or an instant is refused with, in the paper's order, where it is known what the schedule says of the day.
+// What an instant of UTC or of UTS is refused with, in the paper's order, by what the schedule says of its day.
 ghost use mathlib.Core.Path.{_≡_};
 ghost use Rattle.clock.specs.Known.{knownTo};
-ghost use Rattle.clock.specs.Question.{given, atDate, atInstant, atUtc};
+ghost use Rattle.clock.specs.Question.{given, atInstant, atUtc};
 ghost use Rattle.clock.specs.Inner.{DayFor, told};
 use crate::days::Day;
 use crate::days::LONG_DAY;
@@ -24,22 +24,6 @@ pub(crate) fn is_known(last: u64, cutoff: u64, day: u64, t: u64) -> bool
         return false;
     }
     t < cutoff
-}
-
-// The number with which a date is refused, or 0.
-pub(crate) fn date_refusal(k: Day, date: u64) -> u8
-    ensures { λ r. ⌜ ((s : Schedule) → DayFor s date k → atDate s date tt ≡ told r) ⌝ }
-{
-    if !k.well {
-        return NOT_WELL_FORMED;
-    }
-    if date < FIRST_DAY {
-        return BEFORE_1972;
-    }
-    if k.last < date {
-        return NOT_KNOWN;
-    }
-    0
 }
 
 // The number with which an instant of UTC or of UTS is refused, or 0: there is none from `limit` on, and on the last day it is known below

@@ -4,9 +4,9 @@ ghost use mathlib.Core.Path.{_≡_};
 ghost use Prim.Native.Nat.{_+_, min};
 ghost use lib.IntN.{subℕ};
 ghost use Rattle.clock.specs.Days.{firstDtai};
-ghost use Rattle.clock.specs.Question.{dtaiOn, utcToTai, taiToUtc, utcToUts, utsToUtc};
+ghost use Rattle.clock.specs.Question.{atDate, dtaiOn, utcToTai, taiToUtc, utcToUts, utsToUtc};
 ghost use Rattle.clock.specs.Answers.{dtaiAnswer, taiAnswer, utcAnswer, utsAnswer, microsAnswer};
-ghost use Rattle.clock.specs.Inner.{nearDay, onDay};
+ghost use Rattle.clock.specs.Inner.{DayFor, told, nearDay, onDay};
 
 mod days;
 mod instants;
@@ -14,6 +14,7 @@ mod look;
 mod smooth;
 
 use calendar::FIRST_DAY;
+use days::Day;
 use days::FIRST_DTAI;
 use days::MICROS_PER_DAY;
 use refusals::BEFORE_1972;
@@ -78,6 +79,22 @@ pub enum MicrosAnswer {
     Refused(u8),
 }
 
+// The number with which a date is refused, or 0.
+fn date_refusal(k: Day, date: u64) -> u8
+    ensures { λ r. ⌜ ((s : Schedule) → DayFor s date k → atDate s date tt ≡ told r) ⌝ }
+{
+    if !k.well {
+        return NOT_WELL_FORMED;
+    }
+    if date < FIRST_DAY {
+        return BEFORE_1972;
+    }
+    if k.last < date {
+        return NOT_KNOWN;
+    }
+    0
+}
+
 // DTAI by which so many leaps of each sign are in effect; it may be below zero.
 fn dtai_by(up: u16, down: u16) -> i32
     ensures { λ r. ⌜ r ≡ subℕ (firstDtai + up) down ⌝ }
@@ -90,7 +107,7 @@ pub fn dtai(s: Schedule, day: u64) -> DtaiAnswer
     ensures { λ r. ⌜ r ≡ dtaiAnswer (dtaiOn s day) ⌝ }
 {
     let k = days::day_at(s, day);
-    let number = instants::date_refusal(k, day);
+    let number = date_refusal(k, day);
     if number != 0 {
         return DtaiAnswer::Refused(number);
     }

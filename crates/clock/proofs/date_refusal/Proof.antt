@@ -1,4 +1,4 @@
--- `clock::instants::date_refusal` meets its contract. Assumes nothing.
+-- `clock::date_refusal` meets its contract. Assumes nothing.
 use mathlib.Core.Path.{_≡_, _∙_}
 use native.Mathlib.Omega.{arith}
 use borrow.Author.Tests.{le-leb, lt-leb}
@@ -6,8 +6,8 @@ use Rattle.refusals.specs.Refusals.{before1972, notKnown, notWellFormed}
 use Rattle.calendar.specs.Calendar.{firstDay}
 use Rattle.clock.specs.Known.{lastDay}
 use Rattle.clock.proofs.Checks.{pass, stop, passed, failed}
-use Rattle.clock.proofs.instants.date_refusal.Statement.{statement}
-use Rattle.clock.proofs.instants.date_refusal.Tie as tie
+use Rattle.clock.proofs.date_refusal.Statement.{statement}
+use Rattle.clock.proofs.date_refusal.Tie as tie
 
 returns : tie.Need-returns
 returns c s f = stop _ notWellFormed (failed (f .well) (c .if1 .taken))
