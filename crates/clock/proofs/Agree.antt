@@ -16,7 +16,7 @@ use Rattle.schedule.specs.declared.Sign.the-variants.{Positive, Negative}
 use Rattle.schedule.specs.declared.Schedule.{Schedule}
 use Rattle.schedule.specs.Schedule.{leapsOf, wellFormed}
 use Rattle.schedule.specs.Extends.{Extends}
-use Rattle.clock.specs.Days.{tally, dtai, endingBefore, ending, dayLength, tai}
+use Rattle.clock.specs.Days.{longDay, shortDay, tally, dtai, endingBefore, ending, dayLength, tai}
 use Rattle.clock.specs.Smoothed.{nanosPerDay, uts, utcOf}
 use Rattle.clock.specs.Known.{expiryDay, lastDay, taiCutoff, utsCutoff, nanosCutoff, known, knownDate, knownTai}
 use Rattle.clock.specs.Question.{
@@ -24,8 +24,8 @@ use Rattle.clock.specs.Question.{
   given,
   refused,
   require,
-  longestDay,
   firstTai,
+  atInstant,
   atUtc,
   dtaiOn,
   utcToTai,
@@ -118,21 +118,25 @@ module _ (L S : Schedule) (longer : Extends L S) (wL : wellFormed L ≡ true) (w
       let h = leb-true day (lastDay S) e in
       (le-leb day (lastDay L) (omega (arith, last-later)), ap given (dtai-same day h)))
 
-  later-utc : {A : Type 0} (cutoff day t : ℕ) (v v′ : A) → cutoff ≤ taiCutoff → (day < lastDay S → v′ ≡ v) → (day ≤ lastDay S → t < cutoff → v′ ≡ v)
-      → Later (atUtc S cutoff day t v) (atUtc L cutoff day t v′)
-  later-utc cutoff day t v v′ small before on-last =
+  -- the checks of an instant, and what comes after them
+  later-instant : {A : Type 0} (limit cutoff day t : ℕ) {a a′ : Answer A} → Open a′ → (Sure (lastDay S) cutoff day t → a′ ≡ a)
+      → Later (atInstant S limit cutoff day t a) (atInstant L limit cutoff day t a′)
+  later-instant limit cutoff day t o f =
       later-pass (wellFormed S) (wellFormed L) notWellFormed wS wL
       (later-check (leb firstDay day) before1972 λ _.
-      later-check (ltb t longestDay) noInstant λ _.
-      later-known (known S cutoff day t) (known L cutoff day t) (instant-open (ltb t (dayLength (ending L day))) v′) λ e.
-      let sure = known-sure (lastDay S) cutoff day t e in (
-        sure-known (sure-longer last-later sure),
-        ⊎-elim (λ (h : day < lastDay S). rw (ending-same day h, before h))
-            (λ (h : (day ≡ lastDay S) × (t < cutoff)).
-            rw (lt-ltb t (dayLength (ending L day)) (omega (arith, length-least (ending L day))), lt-ltb t (dayLength (ending S day)) (omega (arith, length-least (ending S day))))
-            (ap given (on-last (omega arith) (h .1))))
-            sure,
-      ))
+      later-check (ltb t limit) noInstant λ _.
+      later-known (known S cutoff day t) (known L cutoff day t) o λ e.
+      let sure = known-sure (lastDay S) cutoff day t e in
+      (sure-known (sure-longer last-later sure), f sure))
+
+  later-utc : {A : Type 0} (cutoff day t : ℕ) (v v′ : A) → cutoff ≤ shortDay → (day < lastDay S → v′ ≡ v) → (day ≤ lastDay S → t < cutoff → v′ ≡ v)
+      → Later (atUtc S cutoff day t v) (atUtc L cutoff day t v′)
+  later-utc cutoff day t v v′ small before on-last =
+      later-instant longDay cutoff day t (instant-open (ltb t (dayLength (ending L day))) v′)
+      (⊎-elim (λ (h : day < lastDay S). rw (ending-same day h, before h))
+      (λ (h : (day ≡ lastDay S) × (t < cutoff)).
+      rw (lt-ltb t (dayLength (ending L day)) (omega (arith, length-least (ending L day))), lt-ltb t (dayLength (ending S day)) (omega (arith, length-least (ending S day))))
+      (ap given (on-last (omega arith) (h .1)))))
 
   later-tai : (day t : ℕ) → Later (utcToTai S day t) (utcToTai L day t)
   later-tai day t =
@@ -145,16 +149,9 @@ module _ (L S : Schedule) (longer : Extends L S) (wL : wellFormed L ≡ true) (w
 
   later-back : (day u : ℕ) → Later (utsToUtc S day u) (utsToUtc L day u)
   later-back day u =
-      later-pass (wellFormed S) (wellFormed L) notWellFormed wS wL
-      (later-check (leb firstDay day) before1972 λ _.
-      later-check (ltb u nanosPerDay) noInstant λ _.
-      later-known (known S nanosCutoff day u) (known L nanosCutoff day u) (given-open (utcOf (ending L day) u)) λ e.
-      let sure = known-sure (lastDay S) nanosCutoff day u e in (
-        sure-known (sure-longer last-later sure),
-        ⊎-elim (λ (h : day < lastDay S). rw (ending-same day h))
-            (λ (h : (day ≡ lastDay S) × (u < nanosCutoff)). ap given (sym (back-plain (ending L day) u (h .1)) ∙ back-plain (ending S day) u (h .1)))
-            sure,
-      ))
+      later-instant nanosPerDay nanosCutoff day u (given-open (utcOf (ending L day) u))
+      (⊎-elim (λ (h : day < lastDay S). rw (ending-same day h))
+      (λ (h : (day ≡ lastDay S) × (u < nanosCutoff)). ap given (sym (back-plain (ending L day) u (h .1)) ∙ back-plain (ending S day) u (h .1))))
 
   -- an instant that the shorter list knows has the same TAI under the longer
   instant-same : {x day t : ℕ} → Instant S x day t → Instant L x day t

@@ -7,20 +7,18 @@ use Prim.Native.Nat.{ℕ, _+_, _-_, _*_, _/_, _≤_, _<_}
 use native.Mathlib.Decide.{decLt}
 use native.Mathlib.Omega.{arith}
 use lib.Dec.{leb}
-use borrow.Author.Tests.{leb-true, leb-false, lt-ltb, le-leb, lt-leb}
-use Rattle.refusals.specs.Refusals.{before1972, noInstant, notKnown, notWellFormed}
-use Rattle.calendar.specs.Calendar.{firstDay}
+use borrow.Author.Tests.{leb-true, leb-false, le-leb, lt-leb}
 use Rattle.calendar.proofs.Greatest.{Greatest, greatest-found, greatest-is}
 use Rattle.schedule.specs.declared.Schedule.{Schedule}
-use Rattle.clock.specs.declared.smooth.Ending.{Ending}
-use Rattle.clock.specs.declared.smooth.Ending.the-variants.{Ordinary, Inserted, Deleted}
+use Rattle.clock.specs.declared.days.Ending.{Ending}
+use Rattle.clock.specs.declared.days.Ending.the-variants.{Ordinary, Inserted, Deleted}
 use Rattle.clock.specs.Days.{ending, dayLength}
 use Rattle.clock.specs.Smoothed.{nanosPerDay, uts, utcOf}
 use Rattle.clock.specs.Known.{lastDay, utsCutoff, nanosCutoff}
 use Rattle.clock.specs.Question.{given, utcToUts, utsToUtc}
 use Rattle.clock.proofs.Tai.{length-least}
 use Rattle.clock.proofs.Uts.{uts-is, uts-rises, uts-within, uts-plain}
-use Rattle.clock.proofs.Checks.{Sure, sure-known, pass, OnUtc, on-utc, utc-answered, OnUts, on-uts}
+use Rattle.clock.proofs.Checks.{Sure, OnInstant, instant-passed, OnUtc, on-utc, utc-answered, on-uts}
 
 -- t is the way back of u if its UTS is not above u, and that of each later one is
 back-is : (w : Ending) (u t : ℕ) → t < dayLength w → uts w t ≤ u → ((j : ℕ) → t < j → j < dayLength w → u < uts w j) → t ≡ utcOf w u
@@ -77,10 +75,7 @@ uts-undone s day t u h =
     let is = k .is in
     let sure : Sure (lastDay s) nanosCutoff day u =
     ⊎-elim (λ q. inl q) (λ (q : (day ≡ lastDay s) × (t < utsCutoff)). inr (q .0, omega (arith, uts-plain w t (omega arith)))) (k .sure) in
-    pass notWellFormed (k .well)
-    ∙ pass before1972 (le-leb firstDay day (k .from))
-    ∙ pass noInstant (lt-ltb u nanosPerDay (omega (arith, uts-within w t (k .below))))
-    ∙ pass notKnown (sure-known sure)
+    instant-passed s nanosPerDay nanosCutoff day u (record { well = k .well; from = k .from; below = omega (arith, uts-within w t (k .below)); sure = sure })
     ∙ ap given (sym (back-is w u t (k .below) (omega arith) (λ j a b. omega (arith, uts-rises w t j a b))))
 
 -- t has a UTS that is not above u, and no later time of the day has
@@ -94,8 +89,9 @@ pub record GreatestNotAbove (s : Schedule) (day u t : ℕ) : Type 0 where
 pub greatest-not-above : (s : Schedule) (day u t : ℕ) → utsToUtc s day u ≡ given t → GreatestNotAbove s day u t
 greatest-not-above s day u t h =
     let w = ending s day in
-    let k = on-uts s day u (utcOf w u) t h in
-    let g : Greatest (λ i. leb (uts w i) u) (dayLength w - 1) t = rw (k .is) at (back-greatest w u) in
+    let on = on-uts s day u (utcOf w u) t h in
+    let k = on .0 in
+    let g : Greatest (λ i. leb (uts w i) u) (dayLength w - 1) t = rw (on .1) at (back-greatest w u) in
     let low : uts w t ≤ u = leb-true (uts w t) u (g .passes) in
     let below : t < dayLength w = omega (arith, g .within, length-least w) in
     let sure : Sure (lastDay s) utsCutoff day t =

@@ -12,8 +12,8 @@ use Rattle.schedule.specs.declared.Sign.the-variants.{Positive, Negative}
 use Rattle.schedule.specs.declared.Schedule.{Schedule}
 use Rattle.schedule.specs.Schedule.{leapsOf, wellFormed}
 use Rattle.calendar.specs.Calendar.{firstDay}
-use Rattle.clock.specs.declared.smooth.Ending.{Ending}
-use Rattle.clock.specs.declared.smooth.Ending.the-variants.{Ordinary, Inserted, Deleted}
+use Rattle.clock.specs.declared.days.Ending.{Ending}
+use Rattle.clock.specs.declared.days.Ending.the-variants.{Ordinary, Inserted, Deleted}
 use Rattle.clock.specs.Days.{microsPerSecond, microsPerDay, firstDtai, tally, ending, dayLength, dtai, tai}
 use Rattle.clock.specs.Known.{taiCutoff}
 use Rattle.clock.specs.Question.{given, utcToTai}

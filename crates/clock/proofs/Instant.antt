@@ -16,7 +16,7 @@ use Rattle.schedule.specs.Schedule.{wellFormed}
 use Rattle.clock.specs.Days.{microsPerDay, ending, dayLength, tai}
 use Rattle.clock.specs.Known.{expiryDay, lastDay, taiCutoff, knownTo, knownTai}
 use Rattle.clock.specs.Question.{Answer, given, refused, require, Utc, firstTai, atTai, utcToTai, dayOf, taiToUtc}
-use Rattle.clock.specs.Inner.{nearDay, onDay}
+use Rattle.clock.specs.Inner.{mostDtai, nearDay, onDay}
 use Rattle.clock.proofs.Tai.{length-least, expires-later, tai-low, tai-high, tai-in-day, tai-first, tai-next, tai-order, tai-rises}
 use Rattle.clock.proofs.Checks.{Sure, known-before, known-last, known-sure, sure-through, pass, OnUtc, on-utc, utc-answered, required, given-is}
 
@@ -130,7 +130,7 @@ module _ (s : Schedule) (w : wellFormed s ≡ true) where
 
       pub near-begun : tai s near 0 ≤ x
       near-begun =
-          elim (decLt x 266_000_000) [
+          elim (decLt x mostDtai) [
             | yes l ↦ let z : near ≡ firstDay = omega (arith, last-from) in rw z (omega (arith, tai-first s w))
             | no l ↦ omega (arith, tai-high s w near)
           ]

@@ -16,8 +16,8 @@ use Rattle.schedule.specs.declared.Leap.{Leap}
 use Rattle.schedule.specs.Schedule.{gapsFit}
 use Rattle.schedule.specs.Extends.{sameSign, below}
 use Rattle.schedule.proofs.Gaps.{fits-lt, first, later}
-use Rattle.clock.specs.declared.smooth.Ending.{Ending}
-use Rattle.clock.specs.declared.smooth.Ending.the-variants.{Ordinary, Inserted, Deleted}
+use Rattle.clock.specs.declared.days.Ending.{Ending}
+use Rattle.clock.specs.declared.days.Ending.the-variants.{Ordinary, Inserted, Deleted}
 use Rattle.clock.specs.Days.{count, tally, endingOf, endingBefore}
 
 -- a leap that takes effect after the day is not counted

@@ -22,8 +22,8 @@ use Rattle.schedule.specs.Schedule.{maxLeaps, noLeap, leapsOf, gapFits, gapsFit
 use Rattle.schedule.specs.Extends.{sameSign}
 use Rattle.schedule.proofs.Formed.{in-use, used, gap-last, unused-last}
 use Rattle.schedule.proofs.Gaps.{parts}
-use Rattle.clock.specs.declared.smooth.Ending.{Ending}
-use Rattle.clock.specs.declared.smooth.Ending.the-variants.{Ordinary, Inserted, Deleted}
+use Rattle.clock.specs.declared.days.Ending.{Ending}
+use Rattle.clock.specs.declared.days.Ending.the-variants.{Ordinary, Inserted, Deleted}
 use Rattle.clock.specs.declared.look.Survey.{Survey}
 use Rattle.clock.specs.declared.days.Day.{Day}
 use Rattle.clock.specs.Days.{count, tally, ending}

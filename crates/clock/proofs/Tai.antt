@@ -16,20 +16,21 @@ use Rattle.schedule.specs.declared.Schedule.{Schedule}
 use Rattle.schedule.specs.Schedule.{maxLeaps, leapsOf, wellFormed}
 use Rattle.schedule.specs.Extends.{sameSign}
 use Rattle.schedule.proofs.Gaps.{parts, before-end}
-use Rattle.clock.specs.declared.smooth.Ending.{Ending}
-use Rattle.clock.specs.declared.smooth.Ending.the-variants.{Ordinary, Inserted, Deleted}
-use Rattle.clock.specs.Days.{microsPerDay, count, tally, endingBefore, ending, dayLength, tai}
-use Rattle.clock.specs.Known.{expiryDay, lastDay, taiCutoff}
-use Rattle.clock.specs.Question.{longestDay, firstTai}
+use Rattle.clock.specs.declared.days.Ending.{Ending}
+use Rattle.clock.specs.declared.days.Ending.the-variants.{Ordinary, Inserted, Deleted}
+use Rattle.clock.specs.Days.{microsPerDay, longDay, shortDay, count, tally, endingBefore, ending, dayLength, tai}
+use Rattle.clock.specs.Known.{expiryDay, lastDay}
+use Rattle.clock.specs.Question.{firstTai}
+use Rattle.clock.specs.Inner.{mostDtai}
 use Rattle.clock.proofs.Leaps.{tally-none, tally-next, part}
 
 -- however a day ends, it has 86,399 to 86,401 s
-pub length-least : (w : Ending) → taiCutoff ≤ dayLength w
+pub length-least : (w : Ending) → shortDay ≤ dayLength w
 length-least Ordinary = omega arith
 length-least Inserted = omega arith
 length-least Deleted = omega arith
 
-pub length-most : (w : Ending) → dayLength w ≤ longestDay
+pub length-most : (w : Ending) → dayLength w ≤ longDay
 length-most Ordinary = omega arith
 length-most Inserted = omega arith
 length-most Deleted = omega arith
@@ -87,7 +88,7 @@ module _ (s : Schedule) (w : wellFormed s ≡ true) where
   unfolding tai
   tai-low day i = omega (arith, deleted-few day i, tally-few Negative day)
 
-  pub tai-high : (day : ℕ) → tai s day 0 ≤ microsPerDay * (day - firstDay) + 266_000_000
+  pub tai-high : (day : ℕ) → tai s day 0 ≤ microsPerDay * (day - firstDay) + mostDtai
   unfolding tai
   tai-high day = omega (arith, tally-few Positive day)
 
@@ -112,7 +113,7 @@ module _ (s : Schedule) (w : wellFormed s ≡ true) where
       go Deleted p q = omega (arith, deleted-few day i, deleted-few (day + 1) (omega arith))
 
   -- k days later it is later
-  tai-later : (day k : ℕ) → firstDay ≤ day → tai s day 0 + taiCutoff * k ≤ tai s (day + k) 0
+  tai-later : (day k : ℕ) → firstDay ≤ day → tai s day 0 + shortDay * k ≤ tai s (day + k) 0
   tai-later day zero i = let z : day + 0 ≡ day = omega arith in rw z (omega arith)
   tai-later day (suc k) i =
       let z : day + suc k ≡ day + k + 1 = omega arith in

@@ -8,8 +8,8 @@ use native.Mathlib.Decide.{decLt}
 use lib.Dec.{ltb, leb}
 use borrow.Author.Tests.{ltb-true, ltb-false, lt-ltb, le-ltb, le-leb, lt-leb}
 use Rattle.schedule.proofs.Cases.{by-bool}
-use Rattle.clock.specs.declared.smooth.Ending.{Ending}
-use Rattle.clock.specs.declared.smooth.Ending.the-variants.{Ordinary, Inserted, Deleted}
+use Rattle.clock.specs.declared.days.Ending.{Ending}
+use Rattle.clock.specs.declared.days.Ending.the-variants.{Ordinary, Inserted, Deleted}
 use Rattle.clock.specs.Days.{dayLength}
 use Rattle.clock.specs.Smoothed.{nanosPerDay, smoothing, minus, uts}
 use Rattle.clock.specs.Document002.{hms, plus, algorithm}

@@ -12,8 +12,8 @@ use Rattle.schedule.specs.declared.Leap.{Leap}
 use Rattle.schedule.specs.declared.Schedule.{Schedule}
 use Rattle.schedule.specs.Schedule.{leapsOf}
 use Rattle.schedule.specs.Extends.{sameSign}
-use Rattle.clock.specs.declared.smooth.Ending.{Ending}
-use Rattle.clock.specs.declared.smooth.Ending.the-variants.{Ordinary, Inserted, Deleted}
+use Rattle.clock.specs.declared.days.Ending.{Ending}
+use Rattle.clock.specs.declared.days.Ending.the-variants.{Ordinary, Inserted, Deleted}
 
 -- a second in microseconds
 abbrev pub microsPerSecond : ℕ
@@ -22,6 +22,13 @@ microsPerSecond = 1_000_000
 -- a day of 86,400 s in microseconds
 abbrev pub microsPerDay : ℕ
 microsPerDay = 86_400_000_000
+
+-- a day of 86,401 s, and one of 86,399 s
+abbrev pub longDay : ℕ
+longDay = 86_401_000_000
+
+abbrev pub shortDay : ℕ
+shortDay = 86_399_000_000
 
 -- DTAI from MJD 41317 on, before any leap
 abbrev pub firstDtai : ℕ
@@ -62,9 +69,9 @@ ending s day = endingBefore (leapsOf s) (day + 1)
 
 -- a day's length in microseconds: 86,400 s, or 86,401 s before a positive leap, or 86,399 s before a negative one
 abbrev pub dayLength : Ending → ℕ
-dayLength Ordinary = 86_400_000_000
-dayLength Inserted = 86_401_000_000
-dayLength Deleted = 86_399_000_000
+dayLength Ordinary = microsPerDay
+dayLength Inserted = longDay
+dayLength Deleted = shortDay
 
 -- TAI, microseconds from 1972-01-01 00:00:00 TAI: 86,400,000,000 x (MJD - 41317) + UTC microseconds + 1,000,000 x DTAI.
 -- It is computed in ℕ; `tai-exact` shows that it is that integer, and nothing is cut off.

@@ -13,8 +13,8 @@ use Rattle.schedule.specs.declared.Leap.{Leap}
 use Rattle.schedule.specs.declared.Schedule.{Schedule}
 use Rattle.schedule.specs.Schedule.{leapsOf, wellFormed}
 use Rattle.schedule.specs.Extends.{sameSign}
-use Rattle.clock.specs.declared.smooth.Ending.{Ending}
-use Rattle.clock.specs.declared.smooth.Ending.the-variants.{Ordinary, Inserted, Deleted}
+use Rattle.clock.specs.declared.days.Ending.{Ending}
+use Rattle.clock.specs.declared.days.Ending.the-variants.{Ordinary, Inserted, Deleted}
 use Rattle.clock.specs.declared.look.Survey.{Survey}
 use Rattle.clock.specs.declared.days.Day.{Day}
 use Rattle.clock.specs.Days.{microsPerDay, count, tally, ending}
@@ -64,9 +64,13 @@ abbrev pub told : ℕ → Answer (Unit {0})
 told zero = given tt
 told (suc n) = refused (suc n)
 
--- the day of a TAI or the one before it, at most `last`: no DTAI is below -246 or above 266
+-- no DTAI is above 266 s: in microseconds
+abbrev pub mostDtai : ℕ
+mostDtai = 266_000_000
+
+-- the day of a TAI or the one before it, at most `last`
 abbrev pub nearDay : ℕ → ℕ → ℕ
-nearDay x last = min (firstDay + (x - 266_000_000) / microsPerDay) last
+nearDay x last = min (firstDay + (x - mostDtai) / microsPerDay) last
 
 -- t microseconds into a day, if that is known where `last` is the last day
 abbrev pub onDay : ℕ → ℕ → ℕ → Answer Utc

@@ -9,7 +9,7 @@ use Rattle.calendar.specs.Calendar.{firstDay}
 use Rattle.calendar.specs.Greatest.{greatest}
 use Rattle.schedule.specs.declared.Schedule.{Schedule}
 use Rattle.schedule.specs.Schedule.{wellFormed}
-use Rattle.clock.specs.Days.{dtai, ending, dayLength, tai}
+use Rattle.clock.specs.Days.{longDay, dtai, ending, dayLength, tai}
 use Rattle.clock.specs.Smoothed.{nanosPerDay, uts, utcOf}
 use Rattle.clock.specs.Known.{lastDay, taiCutoff, utsCutoff, nanosCutoff, known, knownDate, knownTai}
 
@@ -23,10 +23,6 @@ abbrev pub require : {A : Type 0} → Bool → ℕ → Answer A → Answer A
 require true n a = a
 require false n a = refused n
 
--- no day has this many microseconds
-abbrev pub longestDay : ℕ
-longestDay = 86_401_000_000
-
 -- the TAI of 1972-01-01 00:00:00 UTC
 abbrev pub firstTai : ℕ
 firstTai = 10_000_000
@@ -36,34 +32,35 @@ pub record Utc : Type 0 where
   pub day : ℕ
   pub micros : ℕ
 
--- the checks of a date, and then v
+-- For a date: 11, 8, 10; and then v.
 abbrev pub atDate : {A : Type 0} → Schedule → ℕ → A → Answer A
-atDate s day v =
+atDate s date v =
     require (wellFormed s) notWellFormed
-    (require (leb firstDay day) before1972
-    (require (knownDate s day) notKnown
+    (require (leb firstDay date) before1972
+    (require (knownDate s date) notKnown
     (given v)))
 
--- the checks of an instant of UTC that is known on Z below the cut-off, and then v
+-- For an instant, t into a day: 11, 8, then 9 if t is the limit or more, 10; and then the answer a. On Z it is known below the cut-off.
+abbrev pub atInstant : {A : Type 0} → Schedule → ℕ → ℕ → ℕ → ℕ → Answer A → Answer A
+atInstant s limit cutoff day t a =
+    require (wellFormed s) notWellFormed
+    (require (leb firstDay day) before1972
+    (require (ltb t limit) noInstant
+    (require (known s cutoff day t) notKnown
+    a)))
+
+-- UTC instants: 11, 8, then 9 if t is 86,401,000,000 or more, 10, then 9 if t is L or more; and then v.
 abbrev pub atUtc : {A : Type 0} → Schedule → ℕ → ℕ → ℕ → A → Answer A
 atUtc s cutoff day t v =
-    require (wellFormed s) notWellFormed
-    (require (leb firstDay day) before1972
-    (require (ltb t longestDay) noInstant
-    (require (known s cutoff day t) notKnown
+    atInstant s longDay cutoff day t
     (require (ltb t (dayLength (ending s day))) noInstant
-    (given v)))))
+    (given v))
 
--- the checks of an instant of UTS, and then v
+-- UTS instants: 11, 8, 9 (86,400,000,000,000 or more), 10; and then v.
 abbrev pub atUts : {A : Type 0} → Schedule → ℕ → ℕ → A → Answer A
-atUts s day u v =
-    require (wellFormed s) notWellFormed
-    (require (leb firstDay day) before1972
-    (require (ltb u nanosPerDay) noInstant
-    (require (known s nanosCutoff day u) notKnown
-    (given v))))
+atUts s day u v = atInstant s nanosPerDay nanosCutoff day u (given v)
 
--- the checks of a TAI, and then v
+-- TAI: 11, 8, 10; and then v.
 abbrev pub atTai : {A : Type 0} → Schedule → ℕ → A → Answer A
 atTai s x v =
     require (wellFormed s) notWellFormed

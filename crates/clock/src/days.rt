@@ -2,23 +2,37 @@
 ghost use mathlib.Core.Path.{_≡_};
 ghost use Prim.Native.Nat.{_+_, _-_, _≤_, _<_};
 ghost use Rattle.calendar.specs.Calendar.{firstDay, lastMonth, endDay, monthStart, InMonth};
-ghost use Rattle.clock.specs.Days.{tai};
+ghost use Rattle.clock.specs.Days.{dayLength, tai};
 ghost use Rattle.clock.specs.Inner.{endingBy, dayOn, DayFor};
 use crate::look::Survey;
 use crate::look::look;
 use crate::look::wide;
-use crate::smooth::Ending;
 use calendar::END_DAY;
 use calendar::FIRST_DAY;
 use schedule::LAST_MONTH;
 use schedule::Schedule;
 
-// A second and a day of 86,400 s in microseconds, and DTAI before any leap.
+// A second in microseconds.
 const MICROS_PER_SECOND: u64 = 1_000_000;
 
+// A day of 86,400 s in microseconds.
 pub(crate) const MICROS_PER_DAY: u64 = 86_400_000_000;
 
+// A day of 86,401 s in microseconds: no day is longer.
+pub(crate) const LONG_DAY: u64 = 86_401_000_000;
+
+// A day of 86,399 s in microseconds: no day is shorter.
+const SHORT_DAY: u64 = 86_399_000_000;
+
+// DTAI before any leap.
 pub(crate) const FIRST_DTAI: u32 = 10;
+
+// How a day ends: as usual, with a second inserted, or with its last second deleted.
+pub(crate) enum Ending {
+    Ordinary,
+    Inserted,
+    Deleted,
+}
 
 // Whether the schedule is well formed; how many leaps of each sign are in effect on a day, and how the day ends; and Z, the last day
 // before expiry.
@@ -30,7 +44,18 @@ pub(crate) struct Day {
     pub(crate) last: u64,
 }
 
-// The last day before a month starts, which is 2400 at most.
+// A day's length in microseconds.
+pub(crate) fn day_length(w: Ending) -> u64
+    ensures { λ r. ⌜ r ≡ dayLength w ⌝ }
+{
+    match w {
+        Ending::Ordinary => MICROS_PER_DAY,
+        Ending::Inserted => LONG_DAY,
+        Ending::Deleted => SHORT_DAY,
+    }
+}
+
+// The last day before a month starts. A month past 2400, at which no list expires, gets the last day of the calendar.
 pub(crate) fn day_before(month: u32) -> u64
     ensures { λ r. ⌜ (month ≤ lastMonth → r ≡ monthStart month - 1) × (r < endDay) ⌝ }
 {
@@ -40,7 +65,7 @@ pub(crate) fn day_before(month: u32) -> u64
     calendar::first_day(month as u16) - 1
 }
 
-// The month of the next day, for a day of the month: that month or the next one.
+// The month of the next day, for a day of the month: the same or the next one.
 fn next_month(day: u64, month: u16) -> u16
     requires { ⌜ month < lastMonth ⌝ }
     ensures { λ r. ⌜ (InMonth day month → InMonth (day + 1) r) ⌝ }
@@ -52,7 +77,7 @@ fn next_month(day: u64, month: u16) -> u16
     month
 }
 
-// How a day ends, by the leaps in effect on it and on the next.
+// How a day ends, by the leaps in effect on it and on the next day.
 fn ending_by(v: Survey) -> Ending
     ensures { λ r. ⌜ r ≡ endingBy v ⌝ }
 {

@@ -4,12 +4,12 @@ ghost use mathlib.Core.Path.{_≡_};
 ghost use Prim.Native.Nat.{_+_, min};
 ghost use lib.IntN.{subℕ};
 ghost use Rattle.clock.specs.Days.{firstDtai};
-ghost use Rattle.clock.specs.Known.{knownTo};
-ghost use Rattle.clock.specs.Question.{atDate, atUtc, atUts, dtaiOn, utcToTai, taiToUtc, utcToUts, utsToUtc};
+ghost use Rattle.clock.specs.Question.{atDate, dtaiOn, utcToTai, taiToUtc, utcToUts, utsToUtc};
 ghost use Rattle.clock.specs.Answers.{dtaiAnswer, taiAnswer, utcAnswer, utsAnswer, microsAnswer};
 ghost use Rattle.clock.specs.Inner.{DayFor, told, nearDay, onDay};
 
 mod days;
+mod instants;
 mod look;
 mod smooth;
 
@@ -18,13 +18,9 @@ use days::Day;
 use days::FIRST_DTAI;
 use days::MICROS_PER_DAY;
 use refusals::BEFORE_1972;
-use refusals::NO_INSTANT;
 use refusals::NOT_KNOWN;
 use refusals::NOT_WELL_FORMED;
 use schedule::Schedule;
-
-// No day has this many microseconds.
-const LONGEST_DAY: u64 = 86_401_000_000;
 
 // A UTS day, which always has 86,400 s, in nanoseconds.
 const NANOS_PER_DAY: u64 = 86_400_000_000_000;
@@ -32,11 +28,13 @@ const NANOS_PER_DAY: u64 = 86_400_000_000_000;
 // The TAI of 1972-01-01 00:00:00 UTC.
 const FIRST_TAI: u64 = 10_000_000;
 
-// On Z TAI is given below this microsecond, UTS below this one, and UTC from UTS below this nanosecond.
+// On Z TAI is given below this microsecond,
 const TAI_CUTOFF: u64 = 86_399_000_000;
 
+// UTS below this microsecond,
 const UTS_CUTOFF: u64 = 85_399_000_000;
 
+// and UTC from UTS below this nanosecond.
 const NANOS_CUTOFF: u64 = 85_399_000_000_000;
 
 // No DTAI is above 266 s: in microseconds.
@@ -81,72 +79,17 @@ pub enum MicrosAnswer {
     Refused(u8),
 }
 
-// Whether a time of a day is known: before the last day, and on it below the cut-off.
-fn is_known(last: u64, cutoff: u64, day: u64, t: u64) -> bool
-    ensures { λ r. ⌜ r ≡ knownTo last cutoff day t ⌝ }
-{
-    if day < last {
-        return true;
-    }
-    if last < day {
-        return false;
-    }
-    t < cutoff
-}
-
 // The number with which a date is refused, or 0.
-fn date_refusal(k: Day, day: u64) -> u8
-    ensures { λ r. ⌜ ((s : Schedule) → DayFor s day k → atDate s day tt ≡ told r) ⌝ }
+fn date_refusal(k: Day, date: u64) -> u8
+    ensures { λ r. ⌜ ((s : Schedule) → DayFor s date k → atDate s date tt ≡ told r) ⌝ }
 {
     if !k.well {
         return NOT_WELL_FORMED;
     }
-    if day < FIRST_DAY {
+    if date < FIRST_DAY {
         return BEFORE_1972;
     }
-    if k.last < day {
-        return NOT_KNOWN;
-    }
-    0
-}
-
-// The number with which an instant of UTC is refused that is known on the last day below the cut-off, or 0.
-fn utc_refusal(k: Day, cutoff: u64, day: u64, t: u64) -> u8
-    ensures { λ r. ⌜ ((s : Schedule) → DayFor s day k → atUtc s cutoff day t tt ≡ told r) ⌝ }
-{
-    if !k.well {
-        return NOT_WELL_FORMED;
-    }
-    if day < FIRST_DAY {
-        return BEFORE_1972;
-    }
-    if LONGEST_DAY <= t {
-        return NO_INSTANT;
-    }
-    if !is_known(k.last, cutoff, day, t) {
-        return NOT_KNOWN;
-    }
-    let w = k.ending;
-    if smooth::day_length(w) <= t {
-        return NO_INSTANT;
-    }
-    0
-}
-
-// The number with which an instant of UTS is refused, or 0.
-fn uts_refusal(k: Day, day: u64, u: u64) -> u8
-    ensures { λ r. ⌜ ((s : Schedule) → DayFor s day k → atUts s day u tt ≡ told r) ⌝ }
-{
-    if !k.well {
-        return NOT_WELL_FORMED;
-    }
-    if day < FIRST_DAY {
-        return BEFORE_1972;
-    }
-    if NANOS_PER_DAY <= u {
-        return NO_INSTANT;
-    }
-    if !is_known(k.last, NANOS_CUTOFF, day, u) {
+    if k.last < date {
         return NOT_KNOWN;
     }
     0
@@ -159,7 +102,7 @@ fn dtai_by(up: u16, down: u16) -> i32
     (FIRST_DTAI + look::wide(up)) as i32 - look::wide(down) as i32
 }
 
-// TAI minus UTC on a date, in seconds.
+// DTAI, TAI minus UTC, for a date.
 pub fn dtai(s: Schedule, day: u64) -> DtaiAnswer
     ensures { λ r. ⌜ r ≡ dtaiAnswer (dtaiOn s day) ⌝ }
 {
@@ -177,39 +120,11 @@ pub fn utc_to_tai(s: Schedule, day: u64, t: UtcMicros) -> TaiAnswer
 {
     let micros = t.0;
     let k = days::day_at(s, day);
-    let number = utc_refusal(k, TAI_CUTOFF, day, micros);
+    let number = instants::utc_refusal(k, TAI_CUTOFF, day, micros);
     if number != 0 {
         return TaiAnswer::Refused(number);
     }
     TaiAnswer::Given(TaiMicros(days::start_of(k, day) + micros))
-}
-
-// UTC to smoothed time.
-pub fn utc_to_uts(s: Schedule, day: u64, t: UtcMicros) -> UtsAnswer
-    ensures { λ r. ⌜ r ≡ utsAnswer (utcToUts s day (t .0)) ⌝ }
-{
-    let micros = t.0;
-    let k = days::day_at(s, day);
-    let number = utc_refusal(k, UTS_CUTOFF, day, micros);
-    if number != 0 {
-        return UtsAnswer::Refused(number);
-    }
-    let w = k.ending;
-    UtsAnswer::Given(UtsNanos(smooth::smoothed(w, micros)))
-}
-
-// Smoothed time to UTC: the greatest microsecond of the day whose smoothed time is not above the one given.
-pub fn uts_to_utc(s: Schedule, day: u64, u: UtsNanos) -> MicrosAnswer
-    ensures { λ r. ⌜ r ≡ microsAnswer (utsToUtc s day (u .0)) ⌝ }
-{
-    let nanos = u.0;
-    let k = days::day_at(s, day);
-    let number = uts_refusal(k, day, nanos);
-    if number != 0 {
-        return MicrosAnswer::Refused(number);
-    }
-    let w = k.ending;
-    MicrosAnswer::Given(UtcMicros(smooth::unsmoothed(w, nanos)))
 }
 
 fn smaller(a: u64, b: u64) -> u64
@@ -235,13 +150,13 @@ fn near_day(x: u64, last: u64) -> u64
 fn on_day(day: u64, t: u64, last: u64) -> UtcAnswer
     ensures { λ r. ⌜ r ≡ utcAnswer (onDay day t last) ⌝ }
 {
-    if is_known(last, TAI_CUTOFF, day, t) {
+    if instants::is_known(last, TAI_CUTOFF, day, t) {
         return UtcAnswer::Given(day, UtcMicros(t));
     }
     UtcAnswer::Refused(NOT_KNOWN)
 }
 
-// TAI to UTC: the one instant whose TAI it is.
+// TAI to UTC: the one instant whose TAI it is. It lies on the day near it or on the next.
 pub fn tai_to_utc(s: Schedule, x: TaiMicros) -> UtcAnswer
     ensures { λ r. ⌜ r ≡ utcAnswer (taiToUtc s (x .0)) ⌝ }
 {
@@ -257,11 +172,39 @@ pub fn tai_to_utc(s: Schedule, x: TaiMicros) -> UtcAnswer
     }
     let w = k.ending;
     let start = days::start_of(k, near);
-    let end = start + smooth::day_length(w);
+    let end = start + days::day_length(w);
     if near < last {
         if end <= tai {
             return on_day(near + 1, tai - end, last);
         }
     }
     on_day(near, tai - start, last)
+}
+
+// UTC to smoothed time.
+pub fn utc_to_uts(s: Schedule, day: u64, t: UtcMicros) -> UtsAnswer
+    ensures { λ r. ⌜ r ≡ utsAnswer (utcToUts s day (t .0)) ⌝ }
+{
+    let micros = t.0;
+    let k = days::day_at(s, day);
+    let number = instants::utc_refusal(k, UTS_CUTOFF, day, micros);
+    if number != 0 {
+        return UtsAnswer::Refused(number);
+    }
+    let w = k.ending;
+    UtsAnswer::Given(UtsNanos(smooth::smoothed(w, micros)))
+}
+
+// Smoothed time to UTC: the greatest microsecond of the day whose smoothed time is not above the one given.
+pub fn uts_to_utc(s: Schedule, day: u64, u: UtsNanos) -> MicrosAnswer
+    ensures { λ r. ⌜ r ≡ microsAnswer (utsToUtc s day (u .0)) ⌝ }
+{
+    let nanos = u.0;
+    let k = days::day_at(s, day);
+    let number = instants::instant_refusal(k, NANOS_PER_DAY, NANOS_CUTOFF, day, nanos);
+    if number != 0 {
+        return MicrosAnswer::Refused(number);
+    }
+    let w = k.ending;
+    MicrosAnswer::Given(UtcMicros(smooth::unsmoothed(w, nanos)))
 }

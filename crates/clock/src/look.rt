@@ -60,7 +60,7 @@ fn used(l: Leap) -> u32
 
 // 1 if the leap is positive and lies at the month or before it, else 0.
 fn adds(l: Leap, month: u16) -> u16
-    ensures { λ r. ⌜ r ≡ reached Positive l month ⌝ }
+    ensures { λ r. ⌜ (r ≡ reached Positive l month) × (r ≤ 1) ⌝ }
 {
     if month < l.month {
         return 0;
@@ -74,7 +74,7 @@ fn adds(l: Leap, month: u16) -> u16
 
 // 1 if the leap is negative and lies at the month or before it, else 0.
 fn takes(l: Leap, month: u16) -> u16
-    ensures { λ r. ⌜ r ≡ reached Negative l month ⌝ }
+    ensures { λ r. ⌜ (r ≡ reached Negative l month) × (r ≤ 1) ⌝ }
 {
     if month < l.month {
         return 0;

@@ -3,13 +3,8 @@ ghost use mathlib.Core.Path.{_≡_};
 ghost use Prim.Native.Nat.{_<_};
 ghost use Rattle.clock.specs.Days.{dayLength};
 ghost use Rattle.clock.specs.Smoothed.{nanosPerDay, uts, utcOf};
-
-// How a day ends: as usual, with a second inserted, or with its last second deleted.
-pub(crate) enum Ending {
-    Ordinary,
-    Inserted,
-    Deleted,
-}
+use crate::days::Ending;
+use crate::days::day_length;
 
 // The last 1,000 s of a day with a leap are smoothed: in microseconds.
 const SMOOTHING: u64 = 1_000_000_000;
@@ -18,17 +13,6 @@ const SMOOTHING: u64 = 1_000_000_000;
 const INSERTED_FROM: u64 = 85_401_000_000;
 
 const DELETED_FROM: u64 = 85_399_000_000;
-
-// A day's length in microseconds.
-pub(crate) fn day_length(w: Ending) -> u64
-    ensures { λ r. ⌜ r ≡ dayLength w ⌝ }
-{
-    match w {
-        Ending::Ordinary => 86_400_000_000,
-        Ending::Inserted => 86_401_000_000,
-        Ending::Deleted => 86_399_000_000,
-    }
-}
 
 // UTS in nanoseconds, t microseconds into a day with that ending.
 pub(crate) fn smoothed(w: Ending, t: u64) -> u64

@@ -11,7 +11,7 @@ use Rattle.clock.specs.Days.{firstDtai, tally, dtai}
 use Rattle.clock.specs.Answers.{dtaiAnswer}
 use Rattle.clock.proofs.Tai.{tally-few}
 use Rattle.clock.proofs.Signed.{minus-kept}
-use Rattle.clock.proofs.Checks.{on-date, date-then, all-passed, then-given, then-refused}
+use Rattle.clock.proofs.Checks.{on-date, date-then, all-passed, then-passed, then-refused}
 use Rattle.clock.proofs.Places.{day-known}
 use Rattle.clock.proofs.dtai.Statement.{statement}
 use Rattle.clock.proofs.dtai.Tie as tie
@@ -31,7 +31,7 @@ returns-2 c =
     let is = day-known (found .ensures) (on .well) (on .from) (on .through) in
     let value = c .dtai-by .ensures ∙ ap₂ (λ u d. subℕ (firstDtai + u) d) (ap (λ k. k .up) is) (ap (λ k. k .down) is) in
     rw value (ap (λ z. Given z) (minus-kept (firstDtai + tally Positive (leapsOf (a .s)) (a .day)) (tally Negative (leapsOf (a .s)) (a .day)) (omega (arith, tally-few (a .s) (on .well) Positive (a .day))) (omega (arith, tally-few (a .s) (on .well) Negative (a .day)))))
-    ∙ sym (ap dtaiAnswer (then-given (date-then (a .s) (a .day) (dtai (a .s) (a .day))) passed))
+    ∙ sym (ap dtaiAnswer (then-passed (date-then (a .s) (a .day) (dtai (a .s) (a .day))) passed))
 
 pub dtai-spec : {M : Type 1} → statement M
 dtai-spec = tie.close (tie.spec (λ c κs. search needs) (λ c κs. search needs) returns (λ c κs. search needs) returns-2)

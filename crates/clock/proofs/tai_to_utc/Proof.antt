@@ -30,7 +30,7 @@ use Rattle.clock.proofs.days.day_before.Reads as day-before-reads
 use Rattle.clock.proofs.days.start_of.Reads as start-of-reads
 use Rattle.clock.proofs.near_day.Reads as near-day-reads
 use Rattle.clock.proofs.on_day.Reads as on-day-reads
-use Rattle.clock.proofs.smooth.day_length.Reads as day-length-reads
+use Rattle.clock.proofs.days.day_length.Reads as day-length-reads
 
 -- where the schedule is well formed and the TAI not before 1972
 abbrev Here : Type 0

@@ -15,7 +15,7 @@ use Rattle.clock.proofs.utc_to_tai.Reads as reads
 use Rattle.clock.proofs.utc_to_tai.Lts as lts
 use Rattle.clock.proofs.days.day_at.Reads as day-at-reads
 use Rattle.clock.proofs.days.start_of.Reads as start-of-reads
-use Rattle.clock.proofs.utc_refusal.Reads as utc-refusal-reads
+use Rattle.clock.proofs.instants.utc_refusal.Reads as utc-refusal-reads
 use Rattle.clock.proofs.utc_to_tai.Statement.{statement}
 use Rattle.clock.proofs.utc_to_tai.Tie as tie
 

@@ -7,7 +7,7 @@ use Rattle.clock.specs.Days.{ending, dayLength}
 use Rattle.clock.specs.Smoothed.{uts}
 use Rattle.clock.specs.Known.{utsCutoff}
 use Rattle.clock.specs.Answers.{utsAnswer}
-use Rattle.clock.proofs.Checks.{on-utc, sure-through, utc-then, all-passed, then-given, then-refused}
+use Rattle.clock.proofs.Checks.{on-utc, sure-through, utc-then, all-passed, then-passed, then-refused}
 use Rattle.clock.proofs.Places.{day-known}
 use Rattle.clock.proofs.utc_to_uts.Statement.{statement}
 use Rattle.clock.proofs.utc_to_uts.Tie as tie
@@ -34,7 +34,7 @@ returns-2 c =
     let on = on-utc (a .s) utsCutoff (a .day) (a .t .0) tt tt passed in
     let is = day-known (found .ensures) (on .well) (on .from) (sure-through (on .sure)) in
     ap (λ u. Given (record { 0 = u })) (c .smoothed .ensures ∙ ap (λ k. uts (k .ending) (a .t .0)) is)
-    ∙ sym (ap utsAnswer (then-given (utc-then (a .s) utsCutoff (a .day) (a .t .0) (uts (ending (a .s) (a .day)) (a .t .0))) passed))
+    ∙ sym (ap utsAnswer (then-passed (utc-then (a .s) utsCutoff (a .day) (a .t .0) (uts (ending (a .s) (a .day)) (a .t .0))) passed))
 
 pub utc-to-uts-spec : {M : Type 1} → statement M
 utc-to-uts-spec = tie.close (tie.spec (λ c κs. search needs) (λ c κs. search needs) returns smoothed-requires returns-2)

@@ -2,7 +2,7 @@
 use mathlib.Core.Path.{_≡_, ap, _∙_}
 use borrow.Author.Needs.{needs}
 use Rattle.schedule.proofs.Gaps.{parts}
-use Rattle.clock.specs.declared.smooth.Ending.{Ending}
+use Rattle.clock.specs.declared.days.Ending.{Ending}
 use Rattle.clock.specs.declared.days.Day.{Day}
 use Rattle.clock.proofs.Places.{day-is, month-small, month-found}
 use Rattle.clock.proofs.days.day_at.Statement.{statement}

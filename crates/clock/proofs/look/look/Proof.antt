@@ -11,14 +11,6 @@ use Rattle.schedule.specs.Schedule.{lastMonth, noLeap}
 use Rattle.clock.proofs.Places.{Looked, looked-none, looked-one, looked-all, looked-gaps, Rest, rest-none, rest-one, rest-all, not-well, too-many, too-late, reached-small}
 use Rattle.clock.proofs.look.look.Statement.{statement}
 use Rattle.clock.proofs.look.look.Tie as tie
-use Rattle.clock.proofs.look.look.Reads as reads
-use Rattle.clock.proofs.look.look.Lts as lts
-use Rattle.clock.proofs.look.adds.Reads as adds-reads
-use Rattle.clock.proofs.look.malformed.Reads as malformed-reads
-use Rattle.clock.proofs.look.misfit.Reads as misfit-reads
-use Rattle.clock.proofs.look.takes.Reads as takes-reads
-use Rattle.clock.proofs.look.used.Reads as used-reads
-use Rattle.clock.proofs.look.wide.Reads as wide-reads
 
 abbrev Inv-loop : tie.InvT-loop
 Inv-loop month next s count expiry faults₀ last₀ up₀ down₀ upnext₀ downnext₀ i₀ faults last up down upnext downnext i =
@@ -32,36 +24,6 @@ Inv-loop2 month next s count expiry faults₀ last up down upnext downnext i₀ 
 
 abbrev μ-loop2 : tie.MeasureT-loop2
 μ-loop2 month next s count expiry faults₀ last up down upnext downnext i₀ faults i = 256 - i
-
--- what is known at the first loop: the schedule's bounds, and the leap that it looks at
-abbrev At : Type 0
-At =
-    lts.At-loop (
-      malformed-reads.Asked,
-      malformed-reads.Learnt,
-      wide-reads.Asked,
-      wide-reads.Learnt,
-      misfit-reads.Asked,
-      misfit-reads.Learnt,
-      adds-reads.Asked,
-      adds-reads.Learnt,
-      takes-reads.Asked,
-      takes-reads.Learnt,
-      used-reads.Asked,
-      used-reads.Learnt,
-    ) reads.Pre reads.Post Inv-loop μ-loop Inv-loop2 μ-loop2
-
-room : (h : At) → h .before .before .before .args .t1 .count ≤ 256
-room h = let l = h .before .before .if1 .left in omega arith
-
-near : (h : At) → h .before .before .before .args .t1 .expiry ≤ lastMonth
-near h = let l = h .before .if2 .left in omega arith
-
-full : (h : At) → length (h .before .before .before .args .t1 .leaps) ≡ 256
-full h = simp length-map at (h .before .before .before .good .0 .1 .1 .0 .1 .0 .1)
-
-abbrev leap : At → Leap
-leap h = getD (h .before .before .before .args .t1 .leaps) (h .loop .i) noLeap
 
 returns : tie.Need-returns Inv-loop μ-loop Inv-loop2 μ-loop2
 returns c =
@@ -82,25 +44,29 @@ loop-again c =
     let h = d .before .before .before .before .before in
     let q = h .loop in
     let a = h .before .before .before .args in
-    looked-one (a .t1) (full h) (room h) (a .month) (a .next) (q .faults) (q .last) (q .up) (q .down) (q .upnext) (q .downnext) (q .i) (q .inv)
+    let full : length (a .t1 .leaps) ≡ 256 = simp length-map at (h .before .before .before .good .0 .1 .1 .0 .1 .0 .1) in
+    looked-one (a .t1) full (omega arith) (a .month) (a .next) (q .faults) (q .last) (q .up) (q .down) (q .upnext) (q .downnext) (q .i) (q .inv)
     (d .before .before .wide .result) (d .before .misfit .result) (d .adds .result) (c .before .before .takes .result) (c .before .adds2 .result) (c .takes2 .result)
     (d .before .before .before .before .loop-test .taken) (d .before .before .wide .ensures .0) (d .before .misfit .ensures)
-    (d .adds .ensures) (c .before .before .takes .ensures) (c .before .adds2 .ensures) (c .takes2 .ensures)
+    (d .adds .ensures .0) (c .before .before .takes .ensures .0) (c .before .adds2 .ensures .0) (c .takes2 .ensures .0)
 
 loop2-holds : tie.Need-loop2-holds Inv-loop μ-loop Inv-loop2 μ-loop2
 loop2-holds c =
     let h = c .before .before in
     let q = h .loop in
     let a = h .before .before .before .args in
+    let full : length (a .t1 .leaps) ≡ 256 = simp length-map at (h .before .before .before .good .0 .1 .1 .0 .1 .0 .1) in
     let l = c .before .loop-test .left in
-    rest-none (a .t1) (full h) _ (q .i) (room h) (near h) (omega (arith, q .inv .place)) (omega (arith, q .inv .few .0, c .misfit2 .ensures .1))
-    (looked-gaps (a .t1) (full h) (room h) (a .month) (a .next) (q .faults) (q .last) (q .up) (q .down) (q .upnext) (q .downnext) (q .i) (q .inv) l _ (c .misfit2 .ensures .0))
+    rest-none (a .t1) full _ (q .i) (omega arith) (omega arith) (omega (arith, q .inv .place)) (omega (arith, q .inv .few .0, c .misfit2 .ensures .1))
+    (looked-gaps (a .t1) full (omega arith) (a .month) (a .next) (q .faults) (q .last) (q .up) (q .down) (q .upnext) (q .downnext) (q .i) (q .inv) l _ (c .misfit2 .ensures .0))
 
 loop2-again : tie.Need-loop2-again Inv-loop μ-loop Inv-loop2 μ-loop2
 loop2-again c =
     let k = c .before .before .before in
     let h = k .before .before .before in
-    rest-one (h .before .before .before .args .t1) (full h) (k .loop2 .faults) (k .loop2 .i) (k .loop2 .inv) _ (c .before .before .loop2-test .taken) (c .used .ensures)
+    let a = h .before .before .before .args in
+    let full : length (a .t1 .leaps) ≡ 256 = simp length-map at (h .before .before .before .good .0 .1 .1 .0 .1 .0 .1) in
+    rest-one (a .t1) full (k .loop2 .faults) (k .loop2 .i) (k .loop2 .inv) _ (c .before .before .loop2-test .taken) (c .used .ensures)
 
 returns-3 : tie.Need-returns-3 Inv-loop μ-loop Inv-loop2 μ-loop2
 returns-3 c =
@@ -108,10 +74,11 @@ returns-3 c =
     let h = c .before .before .before .before in
     let q = h .loop in
     let a = h .before .before .before .args in
+    let full : length (a .t1 .leaps) ≡ 256 = simp length-map at (h .before .before .before .good .0 .1 .1 .0 .1 .0 .1) in
     record {
-      well = rest-all (a .t1) (full h) (k .faults) (k .i) (k .inv) (c .loop2-test .left);
+      well = rest-all (a .t1) full (k .faults) (k .i) (k .inv) (c .loop2-test .left);
       tallied = λ w.
-          looked-all (a .t1) (full h) (room h) (a .month) (a .next) (q .faults) (q .last) (q .up) (q .down) (q .upnext) (q .downnext) (q .i) (q .inv)
+          looked-all (a .t1) full (omega arith) (a .month) (a .next) (q .faults) (q .last) (q .up) (q .down) (q .upnext) (q .downnext) (q .i) (q .inv)
           (c .before .before .before .loop-test .left) _ refl refl refl refl;
     }
 
@@ -128,29 +95,29 @@ look-spec =
     (λ c κs. search needs)
     returns-2
     loop-holds
-    (λ c. omega (arith, room (c .before)))
-    (λ c. omega (arith, room (c .before)))
+    (λ c. omega arith)
+    (λ c. omega arith)
     (λ c κs. search needs)
     (λ c κs. search needs)
-    (λ c. let h = c .before .before .before .before in omega (arith, room h, h .loop .inv .few .0, c .misfit .ensures .1))
+    (λ c. omega arith)
     (λ c κs. search needs)
-    (λ c. let h = c .before .before .before .before .before in omega (arith, room h, h .loop .inv .few .1, c .adds .ensures, reached-small Positive (leap h) (h .before .before .before .args .month)))
+    (λ c. omega arith)
     (λ c κs. search needs)
-    (λ c. let h = c .before .before .before .before .before .before in omega (arith, room h, h .loop .inv .few .2, c .takes .ensures, reached-small Negative (leap h) (h .before .before .before .args .month)))
+    (λ c. omega arith)
     (λ c κs. search needs)
-    (λ c. let h = c .before .before .before .before .before .before .before in omega (arith, room h, h .loop .inv .few .3, c .adds2 .ensures, reached-small Positive (leap h) (h .before .before .before .args .next)))
+    (λ c. omega arith)
     (λ c κs. search needs)
-    (λ c. let h = c .before .before .before .before .before .before .before .before in omega (arith, room h, h .loop .inv .few .4, c .takes2 .ensures, reached-small Negative (leap h) (h .before .before .before .args .next)))
-    (λ c. omega (arith, room (c .before .before .before .before .before .before .before .before)))
+    (λ c. omega arith)
+    (λ c. omega arith)
     (λ c. omega arith)
     loop-again
     (λ c κs. search needs)
-    (λ c. let h = c .before .before in omega (arith, room h, h .loop .inv .place, h .loop .inv .few .0, c .misfit2 .ensures .1))
+    (λ c. omega arith)
     loop2-holds
     (λ c. omega arith)
     (λ c. omega arith)
     (λ c κs. search needs)
-    (λ c. let h = c .before .before .before in omega (arith, h .loop2 .inv .few, h .loop2 .inv .place, c .used .ensures .1))
+    (λ c. omega arith)
     (λ c. omega arith)
     (λ c. omega arith)
     loop2-again

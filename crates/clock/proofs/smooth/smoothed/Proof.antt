@@ -2,7 +2,7 @@
 use mathlib.Core.Path.{sym}
 use native.Mathlib.Omega.{arith}
 use borrow.Author.Needs.{needs}
-use Rattle.clock.specs.declared.smooth.Ending.the-variants.{Ordinary, Inserted, Deleted}
+use Rattle.clock.specs.declared.days.Ending.the-variants.{Ordinary, Inserted, Deleted}
 use Rattle.clock.proofs.Tai.{length-least, length-most}
 use Rattle.clock.proofs.Uts.{uts-is, uts-early}
 use Rattle.clock.proofs.smooth.smoothed.Statement.{statement}

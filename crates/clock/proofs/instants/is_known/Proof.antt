@@ -1,9 +1,9 @@
--- `clock::is_known` meets its contract. Assumes nothing.
+-- `clock::instants::is_known` meets its contract. Assumes nothing.
 use mathlib.Core.Path.{sym}
 use native.Mathlib.Omega.{arith}
 use Rattle.clock.proofs.Checks.{known-before, known-last, known-after}
-use Rattle.clock.proofs.is_known.Statement.{statement}
-use Rattle.clock.proofs.is_known.Tie as tie
+use Rattle.clock.proofs.instants.is_known.Statement.{statement}
+use Rattle.clock.proofs.instants.is_known.Tie as tie
 
 returns : tie.Need-returns
 returns c = sym (known-before _ _ (c .if1 .taken))
