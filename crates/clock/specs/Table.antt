@@ -1,8 +1,8 @@
 -- P10 to P12 of the table to be proved, over the schedules that the lists `6+5?` and `6-5?` stand for.
 -- Assumes nothing.
-use mathlib.Core.List.{List, [], _∷_, _++_}
+use mathlib.Core.List.{_∷_}
 use mathlib.Core.Path.{_≡_, refl}
-use Prim.Native.Nat.{ℕ, _-_}
+use Prim.Native.Nat.{_-_}
 use lib.ListN.{replicate}
 use Rattle.refusals.specs.Refusals.{noInstant}
 use Rattle.calendar.specs.Calendar.{isLeapYear, monthLengths, daysInMonth, monthStart}
