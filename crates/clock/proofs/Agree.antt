@@ -3,7 +3,7 @@
 use mathlib.Core.Bool.{Bool, true, false}
 use mathlib.Core.Logic.{_⊎_, inl, inr, ⊎-elim}
 use mathlib.Core.Path.{_≡_, refl, sym, ap, _∙_}
-use Prim.Native.Nat.{ℕ, _+_, _-_, _/_, _≤_, _<_}
+use Prim.Native.Nat.{ℕ, _+_, _-_, _≤_, _<_}
 use native.Mathlib.Decide.{decLt}
 use native.Mathlib.Omega.{arith}
 use lib.Dec.{leb, ltb}
@@ -18,30 +18,8 @@ use Rattle.schedule.specs.Schedule.{leapsOf, wellFormed}
 use Rattle.schedule.specs.Extends.{Extends}
 use Rattle.clock.specs.Days.{longDay, shortDay, tally, dtai, endingBefore, ending, dayLength, tai}
 use Rattle.clock.specs.Smoothed.{nanosPerDay, uts, utcOf}
-use Rattle.clock.specs.Known.{expiryDay, lastDay, taiCutoff, utsCutoff, nanosCutoff, known, knownDate, knownTai}
-use Rattle.clock.specs.Question.{
-  Answer,
-  given,
-  refused,
-  require,
-  firstTai,
-  atInstant,
-  atUtc,
-  dtaiOn,
-  utcToTai,
-  dayOf,
-  taiToUtc,
-  utcToUts,
-  utsToUtc,
-  Question,
-  DTAI,
-  UTC-to-TAI,
-  TAI-to-UTC,
-  UTC-to-UTS,
-  UTS-to-UTC,
-  Value,
-  ask,
-}
+use Rattle.clock.specs.Known.{lastDay, taiCutoff, utsCutoff, nanosCutoff, known, knownDate, knownTai}
+use Rattle.clock.specs.Question.{Answer, given, refused, require, firstTai, atInstant, atUtc, dtaiOn, utcToTai, dayOf, taiToUtc, utcToUts, utsToUtc, Question, DTAI, UTC-to-TAI, TAI-to-UTC, UTC-to-UTS, UTS-to-UTC, Value, ask}
 use Rattle.clock.proofs.Leaps.{tally-below, ending-below}
 use Rattle.clock.proofs.Tai.{length-least, expires-later}
 use Rattle.clock.proofs.Uts.{uts-plain}

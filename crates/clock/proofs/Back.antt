@@ -1,9 +1,8 @@
 -- Smoothed time to UTC: the way back in closed form, that it undoes UTC to UTS, and that it gives the greatest instant not above.
 -- Assumes nothing.
-use mathlib.Core.Bool.{true}
 use mathlib.Core.Logic.{inl, inr, ⊎-elim}
 use mathlib.Core.Path.{_≡_, sym, ap, _∙_}
-use Prim.Native.Nat.{ℕ, _+_, _-_, _*_, _/_, _≤_, _<_}
+use Prim.Native.Nat.{ℕ, _+_, _-_, _/_, _≤_, _<_}
 use native.Mathlib.Decide.{decLt}
 use native.Mathlib.Omega.{arith}
 use lib.Dec.{leb}
@@ -18,7 +17,7 @@ use Rattle.clock.specs.Known.{lastDay, utsCutoff, nanosCutoff}
 use Rattle.clock.specs.Question.{given, utcToUts, utsToUtc}
 use Rattle.clock.proofs.Tai.{length-least}
 use Rattle.clock.proofs.Uts.{uts-is, uts-rises, uts-within, uts-plain}
-use Rattle.clock.proofs.Checks.{Sure, OnInstant, instant-passed, OnUtc, on-utc, utc-answered, on-uts}
+use Rattle.clock.proofs.Checks.{Sure, instant-passed, on-utc, utc-answered, on-uts}
 
 -- t is the way back of u if its UTS is not above u, and that of each later one is
 back-is : (w : Ending) (u t : ℕ) → t < dayLength w → uts w t ≤ u → ((j : ℕ) → t < j → j < dayLength w → u < uts w j) → t ≡ utcOf w u

@@ -1,9 +1,9 @@
 -- TAI to UTC and UTC to TAI are inverse to each other.
 -- Assumes nothing.
-use mathlib.Core.Bool.{Bool, true, false}
-use mathlib.Core.Logic.{inl, inr, ⊎-elim, _↔_}
-use mathlib.Core.Path.{_≡_, refl, sym, ap, ap₂, _∙_, subst}
-use Prim.Native.Nat.{ℕ, _+_, _-_, _*_, _/_, _≤_, _<_, min}
+use mathlib.Core.Bool.{true}
+use mathlib.Core.Logic.{⊎-elim, _↔_}
+use mathlib.Core.Path.{_≡_, sym, ap, _∙_, subst}
+use Prim.Native.Nat.{ℕ, _+_, _-_, _≤_, _<_}
 use native.Mathlib.Decide.{decLt}
 use native.Mathlib.Omega.{arith}
 use lib.Dec.{leb, ltb}
@@ -13,12 +13,12 @@ use Rattle.calendar.specs.Calendar.{firstDay}
 use Rattle.calendar.proofs.Greatest.{Greatest, greatest-found, greatest-is}
 use Rattle.schedule.specs.declared.Schedule.{Schedule}
 use Rattle.schedule.specs.Schedule.{wellFormed}
-use Rattle.clock.specs.Days.{microsPerDay, ending, dayLength, tai}
-use Rattle.clock.specs.Known.{expiryDay, lastDay, taiCutoff, knownTo, knownTai}
-use Rattle.clock.specs.Question.{Answer, given, refused, require, Utc, firstTai, atTai, utcToTai, dayOf, taiToUtc}
+use Rattle.clock.specs.Days.{ending, dayLength, tai}
+use Rattle.clock.specs.Known.{lastDay, taiCutoff, knownTo, knownTai}
+use Rattle.clock.specs.Question.{given, require, Utc, firstTai, utcToTai, dayOf, taiToUtc}
 use Rattle.clock.specs.Inner.{mostDtai, nearDay, onDay}
 use Rattle.clock.proofs.Tai.{length-least, expires-later, tai-low, tai-high, tai-in-day, tai-first, tai-next, tai-order, tai-rises}
-use Rattle.clock.proofs.Checks.{Sure, known-before, known-last, known-sure, sure-through, pass, OnUtc, on-utc, utc-answered, required, given-is}
+use Rattle.clock.proofs.Checks.{Sure, known-before, known-last, known-sure, sure-through, pass, on-utc, utc-answered, required, given-is}
 
 -- x is the TAI of an instant that the schedule knows
 pub record Instant (s : Schedule) (x day t : ℕ) : Type 0 where

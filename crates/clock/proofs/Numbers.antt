@@ -4,24 +4,7 @@ use mathlib.Core.Path.{_≡_, refl}
 use Prim.Native.Nat.{ℕ}
 use lib.IntN.{ℤ, pos}
 use Rattle.clock.specs.Question.{Answer, given, refused, Utc, number, orZero}
-use Rattle.clock.specs.Answers.{
-  dtaiNumber,
-  dtaiValue,
-  dtaiAnswer,
-  taiNumber,
-  taiValue,
-  taiAnswer,
-  utcNumber,
-  utcDay,
-  utcMicros,
-  utcAnswer,
-  utsNumber,
-  utsValue,
-  utsAnswer,
-  microsNumber,
-  microsValue,
-  microsAnswer,
-}
+use Rattle.clock.specs.Answers.{dtaiNumber, dtaiValue, dtaiAnswer, taiNumber, taiValue, taiAnswer, utcNumber, utcDay, utcMicros, utcAnswer, utsNumber, utsValue, utsAnswer, microsNumber, microsValue, microsAnswer}
 
 pub dtai-told : (a : Answer ℤ) → (dtaiNumber (dtaiAnswer a) ≡ number a) × (dtaiValue (dtaiAnswer a) ≡ orZero (pos 0) a)
 dtai-told (given z) = (refl, refl)

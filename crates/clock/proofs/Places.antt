@@ -2,15 +2,15 @@
 -- Assumes nothing.
 use mathlib.Core.Bool.{Bool, true, false, _&&_, and-assoc, and-true, and-false, true≢false}
 use mathlib.Core.List.{List, [], _∷_}
-use mathlib.Core.Path.{_≡_, refl, sym, ap, ap₂, _∙_}
-use Prim.Native.Nat.{ℕ, zero, suc, _+_, _-_, _≤_, _<_}
+use mathlib.Core.Path.{_≡_, refl, sym, ap, _∙_}
+use Prim.Native.Nat.{ℕ, zero, suc, _+_, _≤_, _<_}
 use native.Mathlib.Numerals.{add-one}
 use native.Mathlib.Decide.{decLt}
 use native.Mathlib.Omega.{arith}
-use lib.Dec.{leb, ltb, eqb}
+use lib.Dec.{leb, eqb}
 use lib.ListN.{length, drop, getD, drop-of-length-le}
 use lib.Seq.{drop-cons}
-use borrow.Author.Tests.{le-leb, lt-leb, lt-ltb, le-ltb, eq-eqb, ne-eqb}
+use borrow.Author.Tests.{le-leb, lt-leb, lt-ltb, le-ltb, ne-eqb}
 use Rattle.calendar.specs.Calendar.{firstDay, lastMonth, endDay, monthStart, InMonth, monthAt}
 use Rattle.calendar.specs.declared.Lookup.{Lookup}
 use Rattle.calendar.proofs.Laws.{started, not-started, in-month, month-below, at-given, answered, early, late, given}
@@ -21,7 +21,6 @@ use Rattle.schedule.specs.declared.Schedule.{Schedule}
 use Rattle.schedule.specs.Schedule.{maxLeaps, noLeap, leapsOf, gapFits, gapsFit, isUnused, allUnused, wellFormed}
 use Rattle.schedule.specs.Extends.{sameSign}
 use Rattle.schedule.proofs.Formed.{in-use, used, gap-last, unused-last}
-use Rattle.schedule.proofs.Gaps.{parts}
 use Rattle.clock.specs.declared.days.Ending.{Ending}
 use Rattle.clock.specs.declared.days.Ending.the-variants.{Ordinary, Inserted, Deleted}
 use Rattle.clock.specs.declared.look.Survey.{Survey}
@@ -43,7 +42,7 @@ eqb-sum (suc a) b = ne-eqb (suc a + b) 0 (λ e. omega arith) ∙ sym (rw (ne-eqb
 one-more : (faults r : ℕ) (now rest : Bool) → eqb r 0 ≡ now → (eqb faults 0 && (now && rest)) ≡ (eqb (faults + r) 0 && rest)
 one-more faults r now rest e = sym (and-assoc (eqb faults 0) now rest) ∙ ap (λ b. b && rest) (sym (eqb-sum faults r ∙ ap (λ b. eqb faults 0 && b) e))
 
-pub reached-small : (sign : Sign) (l : Leap) (month : ℕ) → reached sign l month ≤ 1
+reached-small : (sign : Sign) (l : Leap) (month : ℕ) → reached sign l month ≤ 1
 reached-small sign l month = count-small (sameSign sign (l .sign) && leb (l .month) month)
 
 -- a leap after the month is not counted

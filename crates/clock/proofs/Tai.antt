@@ -18,7 +18,7 @@ use Rattle.schedule.specs.Extends.{sameSign}
 use Rattle.schedule.proofs.Gaps.{parts, before-end}
 use Rattle.clock.specs.declared.days.Ending.{Ending}
 use Rattle.clock.specs.declared.days.Ending.the-variants.{Ordinary, Inserted, Deleted}
-use Rattle.clock.specs.Days.{microsPerDay, longDay, shortDay, count, tally, endingBefore, ending, dayLength, tai}
+use Rattle.clock.specs.Days.{microsPerDay, longDay, shortDay, count, tally, ending, dayLength, tai}
 use Rattle.clock.specs.Known.{expiryDay, lastDay}
 use Rattle.clock.specs.Question.{firstTai}
 use Rattle.clock.specs.Inner.{mostDtai}

@@ -1,7 +1,7 @@
 -- What only the private functions of src/ are held to: the tallies by month numbers, what one look at a schedule finds, and what it
 -- says of a day. No public contract and no promise speaks of these.
 -- Assumes nothing: these are definitions.
-use mathlib.Core.Bool.{Bool, true, false, cond, _&&_}
+use mathlib.Core.Bool.{true, cond, _&&_}
 use mathlib.Core.List.{List, [], _∷_}
 use mathlib.Core.Path.{_≡_}
 use Prim.Native.Nat.{ℕ, zero, suc, _+_, _-_, _/_, _≤_, _<_, min}

@@ -1,9 +1,8 @@
 -- `clock::utc_to_uts` meets its contract. Assumes nothing.
-use mathlib.Core.Path.{_≡_, sym, ap, _∙_}
-use Prim.Native.Nat.{_<_}
+use mathlib.Core.Path.{sym, ap, _∙_}
 use borrow.Author.Needs.{needs}
 use Rattle.clock.specs.declared.UtsAnswer.the-variants.{Given}
-use Rattle.clock.specs.Days.{ending, dayLength}
+use Rattle.clock.specs.Days.{ending}
 use Rattle.clock.specs.Smoothed.{uts}
 use Rattle.clock.specs.Known.{utsCutoff}
 use Rattle.clock.specs.Answers.{utsAnswer}

@@ -1,5 +1,5 @@
 -- `clock::uts_to_utc` meets its contract. Assumes nothing.
-use mathlib.Core.Path.{_≡_, sym, ap, _∙_}
+use mathlib.Core.Path.{sym, ap, _∙_}
 use borrow.Author.Needs.{needs}
 use Rattle.clock.specs.declared.MicrosAnswer.the-variants.{Given}
 use Rattle.clock.specs.Days.{ending}

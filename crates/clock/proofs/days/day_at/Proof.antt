@@ -1,9 +1,8 @@
 -- `clock::days::day_at` meets its contract. Assumes nothing.
-use mathlib.Core.Path.{_≡_, ap, _∙_}
+use mathlib.Core.Path.{ap, _∙_}
 use borrow.Author.Needs.{needs}
 use Rattle.schedule.proofs.Gaps.{parts}
 use Rattle.clock.specs.declared.days.Ending.{Ending}
-use Rattle.clock.specs.declared.days.Day.{Day}
 use Rattle.clock.proofs.Places.{day-is, month-small, month-found}
 use Rattle.clock.proofs.days.day_at.Statement.{statement}
 use Rattle.clock.proofs.days.day_at.Tie as tie

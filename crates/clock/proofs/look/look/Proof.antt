@@ -1,14 +1,11 @@
 -- `clock::look::look` meets its contract. The first loop has counted the faults in the gaps and the tallies up to place i, and the second
 -- the faults in the places not in use. Assumes nothing.
 use mathlib.Core.Path.{_≡_, refl}
-use Prim.Native.Nat.{ℕ, _-_, _≤_}
+use Prim.Native.Nat.{_-_}
 use native.Mathlib.Omega.{arith}
-use lib.ListN.{length, length-map, getD}
+use lib.ListN.{length, length-map}
 use borrow.Author.Needs.{needs}
-use Rattle.schedule.specs.declared.Leap.{Leap}
-use Rattle.schedule.specs.declared.Sign.the-variants.{Positive, Negative}
-use Rattle.schedule.specs.Schedule.{lastMonth, noLeap}
-use Rattle.clock.proofs.Places.{Looked, looked-none, looked-one, looked-all, looked-gaps, Rest, rest-none, rest-one, rest-all, not-well, too-many, too-late, reached-small}
+use Rattle.clock.proofs.Places.{Looked, looked-none, looked-one, looked-all, looked-gaps, Rest, rest-none, rest-one, rest-all, not-well, too-many, too-late}
 use Rattle.clock.proofs.look.look.Statement.{statement}
 use Rattle.clock.proofs.look.look.Tie as tie
 
