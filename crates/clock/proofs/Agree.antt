@@ -20,6 +20,7 @@ use Rattle.clock.specs.Days.{longDay, shortDay, tally, dtai, endingBefor
 use Rattle.clock.specs.Smoothed.{nanosPerDay, uts, utcOf}
 use Rattle.clock.specs.Known.{lastDay, taiCutoff, utsCutoff, nanosCutoff, known, knownDate, knownTai}
 use Rattle.clock.specs.Question.{Answer, given, refused, require, firstTai, atInstant, atUtc, dtaiOn, utcToTai, dayOf, taiToUtc, utcToUts, utsToUtc, Question, DTAI, UTC-to-TAI, TAI-to-UTC, UTC-to-UTS, UTS-to-UTC, Value, ask}
+use Rattle.clock.specs.Lists.{Open, Kept}
 use Rattle.clock.proofs.Leaps.{tally-below, ending-below}
 use Rattle.clock.proofs.Tai.{length-least, expires-later}
 use Rattle.clock.proofs.Uts.{uts-plain}
@@ -28,10 +29,6 @@ use Rattle.clock.proofs.Instant.{Instant, instant-bounds, instant-value
 use Rattle.clock.proofs.Back.{back-plain}
 
 -- ---- two chains of checks, the second of a list that may know more
-
--- what refusal 10 may become: itself, 9 or an answer
-abbrev pub Open : {A : Type 0} → Answer A → Type 0
-Open {A} a = (a ≡ refused notKnown) ⊎ ((a ≡ refused noInstant) ⊎ ((v : A) × (a ≡ given v)))
 
 -- the second answer is the first, or the first is refusal 10
 data Later {A : Type 0} : Answer A → Answer A → Type 0 where
@@ -158,13 +155,6 @@ module _ (L S : Schedule) (longer : Extends L S) (wL : wellFormed L ≡ true) (w
   later-ask (TAI-to-UTC x) = later-utc-of x
   later-ask (UTC-to-UTS day t) = later-uts day t
   later-ask (UTS-to-UTC day u) = later-back day u
-
--- what becomes of the shorter list's answer to a question under the longer
-pub record Kept (longer shorter : Schedule) (q : Question) : Type 0 where
-  pub answer : (v : Value q) → ask shorter q ≡ given v → ask longer q ≡ given v
-  pub refusal-8 : ask shorter q ≡ refused before1972 → ask longer q ≡ refused before1972
-  pub refusal-9 : ask shorter q ≡ refused noInstant → ask longer q ≡ refused noInstant
-  pub refusal-10 : ask shorter q ≡ refused notKnown → Open (ask longer q)
 
 kept : {A : Type 0} {a a′ : Answer A} → Later a a′
     → ((v : A) → a ≡ given v → a′ ≡ given v) × (a ≡ refused before1972 → a′ ≡ refused before1972) × (a ≡ refused noInstant → a′ ≡ refused noInstant)

@@ -23,6 +23,7 @@ use Rattle.schedule.proofs.Gaps.{fits-lt, first, later, before-end, parts}
 use Rattle.clock.specs.Days.{firstDtai, count, tally, dtai}
 use Rattle.clock.specs.Known.{expiryDay, lastDay}
 use Rattle.clock.specs.Question.{given, Question, DTAI, Value, ask}
+use Rattle.clock.specs.Lists.{Agreed, Parted}
 use Rattle.clock.proofs.Leaps.{not-yet, tally-none}
 use Rattle.clock.proofs.Checks.{pass, given-is}
 use Rattle.clock.proofs.Agree.{keeps}
@@ -183,15 +184,6 @@ compare from (a ∷ xs) (b ∷ ys) e f g h =
 
 -- ---- two schedules
 
--- a date has a DTAI under both, and the two differ
-pub record Parted (s s′ : Schedule) : Type 0 where
-  pub day : ℕ
-  pub dtai₁ : ℤ
-  pub dtai₂ : ℤ
-  pub first : ask s (DTAI day) ≡ given dtai₁
-  pub second : ask s′ (DTAI day) ≡ given dtai₂
-  pub differ : dtai₁ ≢ dtai₂
-
 dtai-given : (s : Schedule) (day : ℕ) → wellFormed s ≡ true → firstDay ≤ day → day < expiryDay s → ask s (DTAI day) ≡ given (dtai s day)
 dtai-given s day w h i = pass notWellFormed w ∙ pass before1972 (le-leb firstDay day h) ∙ pass notKnown (le-leb day (lastDay s) (omega arith))
 
@@ -214,17 +206,11 @@ extends-or-parted s s′ w w′ = go (compare 0 (leapsOf s) (leapsOf s′) (s .e
               (omega (arith, minus-same (firstDtai + tally Positive (leapsOf s) (r .day)) (tally Negative (leapsOf s) (r .day)) (firstDtai + tally Positive (leapsOf s′) (r .day)) (tally Negative (leapsOf s′) (r .day)) e));
         }))
 
--- no question gets two different answers
-pub Agreed : Schedule → Schedule → Type 0
-Agreed s s′ = (q : Question) (v v′ : Value q) → ask s q ≡ given v → ask s′ q ≡ given v′ → v ≡ v′
-
 not-parted : (s s′ : Schedule) → Agreed s s′ → Parted s s′ → ⊥
-unfolding Agreed
 not-parted s s′ a d = d .differ (a (DTAI (d .day)) (d .dtai₁) (d .dtai₂) (d .first) (d .second))
 
 -- no question gets two different answers exactly when one list extends the other
 pub agree-iff-extends : (s s′ : Schedule) → wellFormed s ≡ true → wellFormed s′ ≡ true → Agreed s s′ ↔ (Extends s′ s ⊎ Extends s s′)
-unfolding Agreed
 agree-iff-extends s s′ w w′ = (
   λ a. ⊎-elim (λ x. inl x) (λ y. ⊎-elim (λ x. inr x) (λ d. absurd (not-parted s s′ a d)) y) (extends-or-parted s s′ w w′),
   λ x q v v′ p p′.

@@ -1,5 +1,5 @@
--- Document 002, "Algorithmic representation", in its words and with its names, for times of day: UTC and UTS are counted from midnight(UTC),
--- UTC in microseconds and UTS in nanoseconds. So 1 of its thousandths of a microsecond is 1 nanosecond.
+-- The algorithm of document 002, with its two branches and its names, for times of day: UTC in microseconds and UTS in nanoseconds, both
+-- from midnight. `both-branches` shows that it agrees with the one rule of 01.
 -- Assumes nothing: these are definitions.
 use mathlib.Core.Bool.{cond}
 use Prim.Native.Nat.{ℕ, _+_, _-_, _*_}
@@ -9,20 +9,18 @@ use Rattle.clock.specs.declared.days.Ending.the-variants.{Ordinary, Inse
 use Rattle.clock.specs.Days.{microsPerSecond}
 use Rattle.clock.specs.Smoothed.{minus}
 
--- hh:mm:ss in microseconds; so 23:59:60 = 24:00:00 = 86400 s and 00:16:40 = 1000 s
+-- a time of day in microseconds: hours, minutes, seconds; 23:59:60 is 86,400 s
 abbrev pub hms : ℕ → ℕ → ℕ → ℕ
 hms h m s = ((h * 60 + m) * 60 + s) * microsPerSecond
 
--- x + leap_warning(UTC) * y: leap_warning is 1 if the insertion of a leap second is announced for the end of the day, -1 if its deletion
--- is, 0 otherwise (`minus` is x - y * leap_warning)
+-- x + w x y, where w, the document's leap_warning, is +1, -1 or 0 for the leap ending the day
 abbrev pub plus : Ending → ℕ → ℕ → ℕ
 plus Ordinary x y = x
 plus Inserted x y = x + y
 plus Deleted x y = x - y
 
--- if UTC >= 23:59:60, we are in the middle of an inserted leap second: UTS := 23:59:59.001 + (UTC - 23:59:60) * 999/1000;
--- else R := 24:00:00 + leap_warning(UTC) * 00:00:01 - UTC are the seconds remaining until the end of the day,
--- and if R < 00:16:40 then UTS := UTC - (00:16:40 - R) * leap_warning(UTC) / 1000, else UTS := UTC
+-- first branch: from 23:59:60 on, UTS goes on from 23:59:59.001 at 999 thousandths of the speed of UTC;
+-- second branch: with R left of the day, UTS is UTC, and below 1,000 s of R it is taken back by w thousandths of what R is short of them
 unfoldable pub algorithm : Ending → ℕ → ℕ
 algorithm leap-warning UTC =
     let R = plus leap-warning (hms 24 0 0) (hms 0 0 1) - UTC in

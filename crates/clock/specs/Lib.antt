@@ -4,5 +4,6 @@ pub mod Smoothed
 pub mod Document002
 pub mod Known
 pub mod Question
+pub mod Lists
 pub mod Answers
 pub mod Inner
