@@ -215,16 +215,14 @@ extends-or-parted s s′ w w′ = go (compare 0 (leapsOf s) (leapsOf s′) (s .e
         }))
 
 -- no question gets two different answers
-pub Agreed : Schedule → Schedule → Type 0
+abbrev pub Agreed : Schedule → Schedule → Type 0
 Agreed s s′ = (q : Question) (v v′ : Value q) → ask s q ≡ given v → ask s′ q ≡ given v′ → v ≡ v′
 
 not-parted : (s s′ : Schedule) → Agreed s s′ → Parted s s′ → ⊥
-unfolding Agreed
 not-parted s s′ a d = d .differ (a (DTAI (d .day)) (d .dtai₁) (d .dtai₂) (d .first) (d .second))
 
 -- no question gets two different answers exactly when one list extends the other
 pub agree-iff-extends : (s s′ : Schedule) → wellFormed s ≡ true → wellFormed s′ ≡ true → Agreed s s′ ↔ (Extends s′ s ⊎ Extends s s′)
-unfolding Agreed
 agree-iff-extends s s′ w w′ = (
   λ a. ⊎-elim (λ x. inl x) (λ y. ⊎-elim (λ x. inr x) (λ d. absurd (not-parted s s′ a d)) y) (extends-or-parted s s′ w w′),
   λ x q v v′ p p′.

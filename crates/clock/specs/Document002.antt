@@ -1,5 +1,5 @@
 -- Document 002, "Algorithmic representation", in its words and with its names, for times of day: UTC and UTS are counted from midnight(UTC),
--- UTC in microseconds and UTS in nanoseconds. So 1 of its thousandths of a microsecond is 1 nanosecond.
+-- UTC in microseconds and UTS in nanoseconds, so that a thousandth of the one is 1 in the other.
 -- Assumes nothing: these are definitions.
 use mathlib.Core.Bool.{cond}
 use Prim.Native.Nat.{ℕ, _+_, _-_, _*_}
@@ -13,12 +13,12 @@ use Rattle.clock.specs.Smoothed.{minus}
 abbrev pub hms : ℕ → ℕ → ℕ → ℕ
 hms h m s = ((h * 60 + m) * 60 + s) * microsPerSecond
 
--- x + leap_warning(UTC) * y: leap_warning is 1 if the insertion of a leap second is announced for the end of the day, -1 if its deletion
--- is, 0 otherwise (`minus` is x - y * leap_warning)
+-- a + leap_warning(UTC) * b: leap_warning is 1 if the insertion of a leap second is announced for the end of the day, -1 if its deletion
+-- is, 0 otherwise (`minus` is a - b * leap_warning)
 abbrev pub plus : Ending → ℕ → ℕ → ℕ
-plus Ordinary x y = x
-plus Inserted x y = x + y
-plus Deleted x y = x - y
+plus Ordinary a b = a
+plus Inserted a b = a + b
+plus Deleted a b = a - b
 
 -- if UTC >= 23:59:60, we are in the middle of an inserted leap second: UTS := 23:59:59.001 + (UTC - 23:59:60) * 999/1000;
 -- else R := 24:00:00 + leap_warning(UTC) * 00:00:01 - UTC are the seconds remaining until the end of the day,
