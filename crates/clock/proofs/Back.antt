@@ -2,7 +2,7 @@
 -- Assumes nothing.
 use mathlib.Core.Logic.{inl, inr, ⊎-elim}
 use mathlib.Core.Path.{_≡_, sym, ap, _∙_}
-use Prim.Native.Nat.{ℕ, _+_, _-_, _/_, _≤_, _<_}
+use Prim.Native.Nat.{ℕ, _+_, _-_, _*_, _/_, _≤_, _<_}
 use native.Mathlib.Decide.{decLt}
 use native.Mathlib.Omega.{arith}
 use lib.Dec.{leb}
@@ -19,6 +19,13 @@ use Rattle.clock.proofs.Tai.{length-least}
 use Rattle.clock.proofs.Uts.{uts-is, uts-rises, uts-within, uts-plain}
 use Rattle.clock.proofs.Checks.{Sure, instant-passed, on-utc, utc-answered, on-uts}
 
+-- the microseconds from which on a day is smoothed: 23:43:21 before an inserted second and 23:43:19 before a deleted one
+abbrev insertedFrom : ℕ
+insertedFrom = 85_401_000_000
+
+abbrev deletedFrom : ℕ
+deletedFrom = 85_399_000_000
+
 -- t is the way back of u if its UTS is not above u, and that of each later one is
 back-is : (w : Ending) (u t : ℕ) → t < dayLength w → uts w t ≤ u → ((j : ℕ) → t < j → j < dayLength w → u < uts w j) → t ≡ utcOf w u
 back-is w u t h i f =
@@ -27,20 +34,20 @@ back-is w u t h i f =
 pub back-ordinary : (u : ℕ) → u < nanosPerDay → u / 1000 ≡ utcOf Ordinary u
 back-ordinary u h = back-is Ordinary u (u / 1000) (omega arith) (rw (uts-is Ordinary (u / 1000)) (omega arith)) (λ j a b. rw (uts-is Ordinary j) (omega arith))
 
-pub back-inserted-low : (u : ℕ) → u < 85_401_000_000_000 → u / 1000 ≡ utcOf Inserted u
+pub back-inserted-low : (u : ℕ) → u < 1000 * insertedFrom → u / 1000 ≡ utcOf Inserted u
 back-inserted-low u h = back-is Inserted u (u / 1000) (omega arith) (rw (uts-is Inserted (u / 1000)) (omega arith)) (λ j a b. rw (uts-is Inserted j) (omega arith))
 
-pub back-inserted-high : (u : ℕ) → u < nanosPerDay → 85_401_000_000_000 ≤ u → (u - 85_401_000_000) / 999 ≡ utcOf Inserted u
+pub back-inserted-high : (u : ℕ) → u < nanosPerDay → 1000 * insertedFrom ≤ u → (u - insertedFrom) / 999 ≡ utcOf Inserted u
 back-inserted-high u h i =
-    let t = (u - 85_401_000_000) / 999 in
+    let t = (u - insertedFrom) / 999 in
     back-is Inserted u t (omega arith) (rw (uts-is Inserted t) (omega arith)) (λ j a b. rw (uts-is Inserted j) (omega arith))
 
-pub back-deleted-low : (u : ℕ) → u < 85_399_000_000_000 → u / 1000 ≡ utcOf Deleted u
+pub back-deleted-low : (u : ℕ) → u < 1000 * deletedFrom → u / 1000 ≡ utcOf Deleted u
 back-deleted-low u h = back-is Deleted u (u / 1000) (omega arith) (rw (uts-is Deleted (u / 1000)) (omega arith)) (λ j a b. rw (uts-is Deleted j) (omega arith))
 
-pub back-deleted-high : (u : ℕ) → u < nanosPerDay → 85_399_000_000_000 ≤ u → (u + 85_399_000_000) / 1001 ≡ utcOf Deleted u
+pub back-deleted-high : (u : ℕ) → u < nanosPerDay → 1000 * deletedFrom ≤ u → (u + deletedFrom) / 1001 ≡ utcOf Deleted u
 back-deleted-high u h i =
-    let t = (u + 85_399_000_000) / 1001 in
+    let t = (u + deletedFrom) / 1001 in
     back-is Deleted u t (omega arith) (rw (uts-is Deleted t) (omega arith)) (λ j a b. rw (uts-is Deleted j) (omega arith))
 
 -- before it matters how the day ends

@@ -63,54 +63,54 @@ pub looked-none : (s : Schedule) (month next : ℕ) → Looked s month next 0 0 
 looked-none s month next =
     record { place = omega arith; gaps = refl; ups = omega arith; downs = omega arith; upnexts = omega arith; downnexts = omega arith; few = omega arith }
 
-module _ (s : Schedule) (full : length (s .leaps) ≡ maxLeaps) (room : s .count ≤ maxLeaps) (month next : ℕ) where
-  module _ (faults last up down upnext downnext i : ℕ) (p : Looked s month next faults last up down upnext downnext i) where
-    gaps-one : (at r : ℕ) → i < s .count → at ≡ getD (s .leaps) i noLeap .month → eqb r 0 ≡ gapFits last at
-        → gapsFit 0 (leapsOf s) (s .expiry) ≡ (eqb (faults + r) 0 && gapsFit at (drop (i + 1) (leapsOf s)) (s .expiry))
-    unfolding gapsFit
-    gaps-one at r h m e =
-        p .gaps
-        ∙ ap (λ ls. eqb faults 0 && gapsFit last ls (s .expiry)) (in-use s i (omega (arith, used s full i room)))
-        ∙ rw (← m) (one-more faults r (gapFits last at) (gapsFit at (drop (i + 1) (leapsOf s)) (s .expiry)) e)
+module _ (s : Schedule) (full : length (s .leaps) ≡ maxLeaps) (room : s .count ≤ maxLeaps) (month next faults last up down upnext downnext i : ℕ)
+    (p : Looked s month next faults last up down upnext downnext i) where
+  gaps-one : (at r : ℕ) → i < s .count → at ≡ getD (s .leaps) i noLeap .month → eqb r 0 ≡ gapFits last at
+      → gapsFit 0 (leapsOf s) (s .expiry) ≡ (eqb (faults + r) 0 && gapsFit at (drop (i + 1) (leapsOf s)) (s .expiry))
+  unfolding gapsFit
+  gaps-one at r h m e =
+      p .gaps
+      ∙ ap (λ ls. eqb faults 0 && gapsFit last ls (s .expiry)) (in-use s i (omega (arith, used s full i room)))
+      ∙ rw (← m) (one-more faults r (gapFits last at) (gapsFit at (drop (i + 1) (leapsOf s)) (s .expiry)) e)
 
-    pub looked-one : (at r a b c d : ℕ) → i < s .count → at ≡ getD (s .leaps) i noLeap .month → (eqb r 0 ≡ gapFits last at) × (r ≤ 1)
-        → a ≡ reached Positive (getD (s .leaps) i noLeap) month → b ≡ reached Negative (getD (s .leaps) i noLeap) month
-        → c ≡ reached Positive (getD (s .leaps) i noLeap) next → d ≡ reached Negative (getD (s .leaps) i noLeap) next
-        → Looked s month next (faults + r) at (up + a) (down + b) (upnext + c) (downnext + d) (i + 1)
-    looked-one at r a b c d h m e ea eb ec ed =
-        let l = getD (s .leaps) i noLeap in
-        let step = in-use s i (omega (arith, used s full i room)) in
+  pub looked-one : (at r a b c d : ℕ) → i < s .count → at ≡ getD (s .leaps) i noLeap .month → (eqb r 0 ≡ gapFits last at) × (r ≤ 1)
+      → a ≡ reached Positive (getD (s .leaps) i noLeap) month → b ≡ reached Negative (getD (s .leaps) i noLeap) month
+      → c ≡ reached Positive (getD (s .leaps) i noLeap) next → d ≡ reached Negative (getD (s .leaps) i noLeap) next
+      → Looked s month next (faults + r) at (up + a) (down + b) (upnext + c) (downnext + d) (i + 1)
+  looked-one at r a b c d h m e ea eb ec ed =
+      let l = getD (s .leaps) i noLeap in
+      let step = in-use s i (omega (arith, used s full i room)) in
+      record {
+        place = omega arith;
+        gaps = gaps-one at r h m (e .0);
+        ups = omega (arith, p .ups, ap (λ ls. upTo Positive ls month) step);
+        downs = omega (arith, p .downs, ap (λ ls. upTo Negative ls month) step);
+        upnexts = omega (arith, p .upnexts, ap (λ ls. upTo Positive ls next) step);
+        downnexts = omega (arith, p .downnexts, ap (λ ls. upTo Negative ls next) step);
+        few = (
+          omega (arith, p .few .0, e .1),
+          omega (arith, p .few .1, reached-small Positive l month),
+          omega (arith, p .few .2, reached-small Negative l month),
+          omega (arith, p .few .3, reached-small Positive l next),
+          omega (arith, p .few .4, reached-small Negative l next),
+        );
+      }
+
+  -- after the last leap
+  module _ (h : s .count ≤ i) where
+    pub looked-all : (v : Survey) → v .up ≡ up → v .down ≡ down → v .upnext ≡ upnext → v .downnext ≡ downnext → Tallied s month next v
+    looked-all v ea eb ec ed =
+        let e = drop-of-length-le (leapsOf s) {i = i} (omega (arith, used s full i room)) in
         record {
-          place = omega arith;
-          gaps = gaps-one at r h m (e .0);
-          ups = omega (arith, p .ups, ap (λ ls. upTo Positive ls month) step);
-          downs = omega (arith, p .downs, ap (λ ls. upTo Negative ls month) step);
-          upnexts = omega (arith, p .upnexts, ap (λ ls. upTo Positive ls next) step);
-          downnexts = omega (arith, p .downnexts, ap (λ ls. upTo Negative ls next) step);
-          few = (
-            omega (arith, p .few .0, e .1),
-            omega (arith, p .few .1, reached-small Positive l month),
-            omega (arith, p .few .2, reached-small Negative l month),
-            omega (arith, p .few .3, reached-small Positive l next),
-            omega (arith, p .few .4, reached-small Negative l next),
-          );
+          up = omega (arith, p .ups, ap (λ ls. upTo Positive ls month) e);
+          down = omega (arith, p .downs, ap (λ ls. upTo Negative ls month) e);
+          upNext = omega (arith, p .upnexts, ap (λ ls. upTo Positive ls next) e);
+          downNext = omega (arith, p .downnexts, ap (λ ls. upTo Negative ls next) e);
         }
 
-    -- after the last leap
-    module _ (h : s .count ≤ i) where
-      pub looked-all : (v : Survey) → v .up ≡ up → v .down ≡ down → v .upnext ≡ upnext → v .downnext ≡ downnext → Tallied s month next v
-      looked-all v ea eb ec ed =
-          let e = drop-of-length-le (leapsOf s) {i = i} (omega (arith, used s full i room)) in
-          record {
-            up = omega (arith, p .ups, ap (λ ls. upTo Positive ls month) e);
-            down = omega (arith, p .downs, ap (λ ls. upTo Negative ls month) e);
-            upNext = omega (arith, p .upnexts, ap (λ ls. upTo Positive ls next) e);
-            downNext = omega (arith, p .downnexts, ap (λ ls. upTo Negative ls next) e);
-          }
-
-      pub looked-gaps : (r : ℕ) → eqb r 0 ≡ gapFits last (s .expiry) → gapsFit 0 (leapsOf s) (s .expiry) ≡ eqb (faults + r) 0
-      looked-gaps r e =
-          p .gaps ∙ ap (λ b. eqb faults 0 && b) (gap-last s full i room h last (s .expiry) ∙ sym e) ∙ sym (eqb-sum faults r)
+    pub looked-gaps : (r : ℕ) → eqb r 0 ≡ gapFits last (s .expiry) → gapsFit 0 (leapsOf s) (s .expiry) ≡ eqb (faults + r) 0
+    looked-gaps r e =
+        p .gaps ∙ ap (λ b. eqb faults 0 && b) (gap-last s full i room h last (s .expiry) ∙ sym e) ∙ sym (eqb-sum faults r)
 
 -- ---- the places that are not in use, up to place i
 pub record Rest (s : Schedule) (faults i : ℕ) : Type 0 where

@@ -6,7 +6,7 @@ use Prim.Native.Nat.{ℕ, _+_, _*_, _<_}
 use native.Mathlib.Omega.{arith}
 use Rattle.schedule.specs.declared.Schedule.{Schedule}
 use Rattle.clock.specs.Days.{ending}
-use Rattle.clock.specs.Smoothed.{nanosPerDay, uts}
+use Rattle.clock.specs.Smoothed.{nanosPerDay, nanosPerSecond, uts}
 use Rattle.clock.specs.Known.{utsCutoff}
 use Rattle.clock.specs.Question.{given, utcToUts}
 use Rattle.clock.proofs.Uts.{uts-rises, uts-within, uts-near}
@@ -17,7 +17,7 @@ abbrev pub Before : ℕ → ℕ → ℕ → ℕ → Type 0
 Before c a d b = (c < d) ⊎ ((c ≡ d) × (a < b))
 
 -- UTS stays less than one second from UTC of the same day
-pub within-one-second : (s : Schedule) (day t u : ℕ) → utcToUts s day t ≡ given u → (u < 1000 * t + 1_000_000_000) × (1000 * t < u + 1_000_000_000)
+pub within-one-second : (s : Schedule) (day t u : ℕ) → utcToUts s day t ≡ given u → (u < 1000 * t + nanosPerSecond) × (1000 * t < u + nanosPerSecond)
 within-one-second s day t u h =
     let k = on-utc s utsCutoff day t (uts (ending s day) t) u h in
     let n = uts-near (ending s day) t (k .below) in

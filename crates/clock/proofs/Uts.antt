@@ -10,7 +10,7 @@ use borrow.Author.Tests.{ltb-false, le-ltb, le-leb, lt-leb}
 use Rattle.clock.specs.declared.days.Ending.{Ending}
 use Rattle.clock.specs.declared.days.Ending.the-variants.{Ordinary, Inserted, Deleted}
 use Rattle.clock.specs.Days.{dayLength}
-use Rattle.clock.specs.Smoothed.{nanosPerDay, smoothing, minus, uts}
+use Rattle.clock.specs.Smoothed.{nanosPerDay, nanosPerSecond, smoothing, minus, uts}
 use Rattle.clock.specs.Document002.{hms, plus, algorithm}
 use Rattle.clock.specs.Known.{utsCutoff}
 
@@ -47,7 +47,7 @@ uts-within Inserted t h = rw (uts-is Inserted t) (omega arith)
 uts-within Deleted t h = rw (uts-is Deleted t) (omega arith)
 
 -- and less than one second from UTC
-pub uts-near : (w : Ending) (t : ℕ) → t < dayLength w → (uts w t < 1000 * t + 1_000_000_000) × (1000 * t < uts w t + 1_000_000_000)
+pub uts-near : (w : Ending) (t : ℕ) → t < dayLength w → (uts w t < 1000 * t + nanosPerSecond) × (1000 * t < uts w t + nanosPerSecond)
 uts-near Ordinary t h = rw (uts-is Ordinary t) (omega arith)
 uts-near Inserted t h = rw (uts-is Inserted t) (omega arith)
 uts-near Deleted t h = rw (uts-is Deleted t) (omega arith)

@@ -13,11 +13,11 @@ use Rattle.clock.specs.Smoothed.{minus}
 abbrev pub hms : ℕ → ℕ → ℕ → ℕ
 hms h m s = ((h * 60 + m) * 60 + s) * microsPerSecond
 
--- x + w x y, where w, the document's leap_warning, is +1, -1 or 0 for the leap ending the day
+-- a + w x b, where w, the document's leap_warning, is +1, -1 or 0 for the leap ending the day
 abbrev pub plus : Ending → ℕ → ℕ → ℕ
-plus Ordinary x y = x
-plus Inserted x y = x + y
-plus Deleted x y = x - y
+plus Ordinary a b = a
+plus Inserted a b = a + b
+plus Deleted a b = a - b
 
 -- first branch: from 23:59:60 on, UTS goes on from 23:59:59.001 at 999 thousandths of the speed of UTC;
 -- second branch: with R left of the day, UTS is UTC, and below 1,000 s of R it is taken back by w thousandths of what R is short of them

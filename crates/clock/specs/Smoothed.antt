@@ -12,18 +12,22 @@ use Rattle.clock.specs.Days.{dayLength}
 abbrev pub nanosPerDay : ℕ
 nanosPerDay = 86_400_000_000_000
 
--- the last 1,000 s of a day are smoothed: in microseconds
+-- a second in nanoseconds
+abbrev pub nanosPerSecond : ℕ
+nanosPerSecond = 1_000_000_000
+
+-- the last 1,000 s of a day with a leap are smoothed: in microseconds
 abbrev pub smoothing : ℕ
 smoothing = 1_000_000_000
 
--- x - w x y, where w is +1, -1 or 0 for the leap ending the day
+-- a - w b, where w is +1, -1 or 0 for the leap ending the day
 abbrev pub minus : Ending → ℕ → ℕ → ℕ
-minus Ordinary x y = x
-minus Inserted x y = x - y
-minus Deleted x y = x + y
+minus Ordinary a b = a
+minus Inserted a b = a - b
+minus Deleted a b = a + b
 
--- UTS in nanoseconds, t microseconds into a day of length L with that ending: let R = L - t;
--- if R < 1,000,000,000, UTS is 1000 x t - w x (1,000,000,000 - R), else 1000 x t
+-- UTS in nanoseconds, t microseconds into a day of length L with that ending. Let R = L - t: if R < 1,000,000,000, UTS is
+-- 1000 x t - w x (1,000,000,000 - R), else 1000 x t. Below L nothing is cut off (`uts-exact`).
 unfoldable pub uts : Ending → ℕ → ℕ
 uts w t =
     let R = dayLength w - t in
