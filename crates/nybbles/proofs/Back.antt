@@ -1,6 +1,6 @@
 -- Reading back: the nybble list of a well-formed schedule is read as that schedule.
 -- Assumes nothing.
-use mathlib.Core.Path.{_≡_, refl, sym, ap, _∙_}
+use mathlib.Core.Path.{_≡_, refl, ap, _∙_}
 use mathlib.Core.Bool.{true}
 use mathlib.Core.List.{List, [], _∷_, _++_, map, map-append, append-nil}
 use Prim.Native.Nat.{ℕ, _+_, _*_, _-_, _%_, _≤_, _<_}
@@ -8,7 +8,7 @@ use native.Mathlib.Omega.{arith}
 use lib.Dec.{ltb, eqb}
 use lib.ListN.{length, length-map}
 use lib.Seq.{length-take-le}
-use borrow.Author.Tests.{ltb-true, lt-ltb, le-ltb, le-leb, eqb-false}
+use borrow.Author.Tests.{ltb-true, lt-ltb, le-ltb, le-leb}
 use Rattle.schedule.specs.declared.Sign.{Sign}
 use Rattle.schedule.specs.declared.Sign.the-variants.{Positive, Negative}
 use Rattle.schedule.specs.declared.Leap.{Leap}
@@ -22,44 +22,13 @@ use Rattle.schedule.proofs.Adds.{adds, made-again}
 use Rattle.nybbles.specs.declared.code.Mark.{Mark}
 use Rattle.nybbles.specs.declared.code.Mark.the-variants.{Leaps, Expires}
 use Rattle.nybbles.specs.declared.code.Code.{Code}
-use Rattle.nybbles.specs.Codes.{npExpiry, markOf, inSixes, npPositive, codesOf}
-use Rattle.nybbles.specs.Read.{State, isExpiry, fault, after, atEnd, readCodes, start, readNybbles}
-use Rattle.nybbles.specs.Write.{npOf, codesFrom, plainCodes, spread, anySingle, padded, evened, spelling, nybblesOf}
-use Rattle.nybbles.proofs.Codes.{sizes, sizes-add-up}
+use Rattle.nybbles.specs.Codes.{nybbles, npExpiry, markOf, inSixes, npPositive, codesOf}
+use Rattle.nybbles.specs.Read.{State, fault, after, readCodes, readNybbles}
+use Rattle.nybbles.specs.Write.{npOf, codesFrom, plainCodes, spread, anySingle, padded, evened, pack, spelling, nybblesOf}
+use Rattle.nybbles.proofs.Plain.{plain, readPlain, plain-read}
 use Rattle.nybbles.proofs.Filled.{np-small}
 use Rattle.nybbles.proofs.Division.{codeOf, divided, spelling-all, spread-all, evened-even, unpacked}
 use Rattle.nybbles.proofs.Meaning.{Means, last, more, single-read, pair-read, written-means}
-
--- months and mark alone: a code as if it had one nybble
-abbrev plain : Code → Code
-plain c = record { months = c .months; mark = c .mark; size = 1 }
-
-plain-fault : (st : State) (c : Code) → fault st (plain c) ≡ fault st c
-unfolding fault
-plain-fault st c = refl
-
-plain-after : (st : State) (c : Code) → after st (plain c) ≡ after st c
-unfolding after
-plain-after st c = refl
-
-plain-end : (cs : List Code) (st : State) (p q k l : ℕ) → k ≡ p + sizes cs → l ≡ q + length cs → atEnd l q st .number ≡ 0 → atEnd k p st ≡ atEnd l q st
-unfolding sizes
-plain-end [] st p q k l e f z = simp (le-ltb p k (omega arith), le-ltb q l (omega arith))
-plain-end (d ∷ ds) st p q k l e f z = absurd (omega (arith, simp (lt-ltb q l (omega arith)) at z))
-
--- a reading that is accepted goes by months and marks alone
-plain-read : (cs : List Code) (st : State) (p q k l : ℕ) → k ≡ p + sizes cs → l ≡ q + length cs → readCodes l q st (map plain cs) .number ≡ 0
-    → readCodes k p st cs ≡ readCodes l q st (map plain cs)
-unfolding readCodes sizes
-plain-read [] st p q k l e f z = absurd (omega arith)
-plain-read (c ∷ cs) st p q k l e f z =
-    let a = plain-fault st c in
-    let b = plain-after st c in
-    by-bool (eqb (fault st c) 0)
-    (λ g. by-bool (isExpiry (c .mark))
-    (λ x. simp (a, b, g, x) (plain-end cs (after st c) (p + c .size) (q + 1) k l (omega arith) (omega arith) (simp (a, b, g, x) at z)))
-    (λ x. simp (a, b, g, x) (plain-read cs (after st c) (p + c .size) (q + 1) k l (omega arith) (omega arith) (simp (a, b, g, x) at z))))
-    (λ g. absurd (eqb-false (fault st c) 0 g (simp (a, g) at z)))
 
 -- codes are taken with one answer, wherever they stand
 abbrev Takes : State → List Code → Reading → Type 0
@@ -131,17 +100,18 @@ evened-plain cs = by-bool (eqb (length (spread cs) % 2) 0) (λ a. simp a) (λ a.
 
 -- the nybble list of a well-formed schedule with 256 places is read as that schedule
 pub reads-back : (s : Schedule) → length (s .leaps) ≡ 256 → wellFormed s ≡ true → readNybbles (nybblesOf s) ≡ record { number = 0; place = 0; schedule = s }
-unfolding readNybbles nybblesOf spelling
+unfolding nybblesOf spelling
 reads-back s full w =
     let p = parts s w in
     let used = length-take-le (s .count) (s .leaps) (omega (arith, p .room)) in
     let written = spelling-all s w in
     let ns = spread (spelling s) in
-    let cs = codesOf ns in
-    let answer = accepted (adds blankSchedule (leapsOf s)) (s .expiry) in
-    let same : map plain cs ≡ map plain (map codeOf (plainCodes s)) = ap (map plain) (divided (spelling s) written) ∙ evened-plain (plainCodes s) in
-    let as-many : length cs ≡ length (map codeOf (plainCodes s)) = sym (length-map cs plain) ∙ (ap length same ∙ length-map (map codeOf (plainCodes s)) plain) in
-    let taken : readCodes (length cs) 0 start (map plain cs) ≡ answer =
-    ap (readCodes (length cs) 0 start) same ∙ list-back (leapsOf s) 0 (s .expiry) blankSchedule (p .gaps) (p .end) (omega (arith, p .room)) 0 (length cs) (omega arith) in
-    ap (λ (ms : List ℕ). readCodes (length ms) 0 start (codesOf ms)) (unpacked ns (evened-even (plainCodes s)) (spread-all (spelling s) written))
-    ∙ (plain-read cs start 0 0 (length ns) (length cs) (omega (arith, sizes-add-up ns)) (omega arith) (ap (λ (r : Reading). r .number) taken) ∙ (taken ∙ made-again s full w))
+    let cs = map plain (map codeOf (plainCodes s)) in
+    let unpack : nybbles (pack ns) ≡ ns = unpacked ns (evened-even (plainCodes s)) (spread-all (spelling s) written) in
+    let same : map plain (codesOf (nybbles (pack ns))) ≡ cs =
+    ap (λ (ms : List ℕ). map plain (codesOf ms)) unpack ∙ (ap (map plain) (divided (spelling s) written) ∙ evened-plain (plainCodes s)) in
+    let taken : readPlain cs ≡ accepted (adds blankSchedule (leapsOf s)) (s .expiry) =
+    list-back (leapsOf s) 0 (s .expiry) blankSchedule (p .gaps) (p .end) (omega (arith, p .room)) 0 (length cs) (omega (arith, length-map (map codeOf (plainCodes s)) plain)) in
+    let read = plain-read (pack ns) in
+    let alike : readPlain (map plain (codesOf (nybbles (pack ns)))) ≡ accepted (adds blankSchedule (leapsOf s)) (s .expiry) = ap readPlain same ∙ taken in
+    read .same (read .number ∙ ap (λ (r : Reading). r .number) alike) ∙ (alike ∙ made-again s full w)

@@ -57,24 +57,24 @@ pub data All {A : Type 0} (P : A → Type 0) : List A → Type 0 where
   none : All P []
   more : {x : A} {xs : List A} → P x → All P xs → All P (x ∷ xs)
 
--- every code has a month
-abbrev pub HasMonths : Code → Type 0
-HasMonths c = 0 < c .months
+-- every code has a month and a nybble
+abbrev pub Some : Code → Type 0
+Some c = (0 < c .months) × (0 < c .size)
 
-pub single-some : (n : ℕ) → HasMonths (single n)
+pub single-some : (n : ℕ) → Some (single n)
 unfolding single
-single-some n = omega arith
+single-some n = (omega arith, omega arith)
 
-pub wide-some : (n g z : ℕ) → HasMonths (wide n g z)
+pub wide-some : (n g z : ℕ) → 0 < z → Some (wide n g z)
 unfolding wide
-wide-some n g z = by-cond (λ (m : ℕ). 0 < m) (eqb (bitM n) 1) (λ b. omega arith) (λ b. omega arith)
+wide-some n g z h = (by-cond (λ (m : ℕ). 0 < m) (eqb (bitM n) 1) (λ b. omega arith) (λ b. omega arith), h)
 
-pub codes-some : (ns : List ℕ) → All HasMonths (codesOf ns)
+pub codes-some : (ns : List ℕ) → All Some (codesOf ns)
 unfolding codesOf
 codes-some [] = none
-codes-some (n ∷ []) = by-cond (All HasMonths) (ltb n 8) (λ b. more (single-some n) none) (λ b. more (wide-some n lastG 1) none)
+codes-some (n ∷ []) = by-cond (All Some) (ltb n 8) (λ b. more (single-some n) none) (λ b. more (wide-some n lastG 1 (omega arith)) none)
 codes-some (n ∷ g ∷ ns) =
-    by-cond (All HasMonths) (ltb n 8) (λ b. more (single-some n) (codes-some (g ∷ ns))) (λ b. more (wide-some n g 2) (codes-some ns))
+    by-cond (All Some) (ltb n 8) (λ b. more (single-some n) (codes-some (g ∷ ns))) (λ b. more (wide-some n g 2 (omega arith)) (codes-some ns))
 
 -- and at most 96
 wide-few : (n g z : ℕ) → g < 16 → wide n g z .months ≤ 96
@@ -104,7 +104,7 @@ module _ (bytes : List ℕ) (at n : ℕ) (h : at < length (nybbles bytes)) (e : 
         let two : drop (at + 1) (nybbles bytes) ≡ g ∷ drop (at + 2) (nybbles bytes) = rw (f, next, drop-cons (nybbles bytes) (at + 1) 0 k) in
         rw q (record {
           divides = ap codesOf (here ∙ ap (λ (r : List ℕ). n ∷ r) two) ∙ codes-wide n g (drop (at + 2) (nybbles bytes)) l;
-          some = wide-some n g 2;
+          some = wide-some n g 2 (omega arith) .0;
           few = wide-few n g 2 s;
           one = omega arith;
           two = omega arith;
@@ -117,7 +117,7 @@ module _ (bytes : List ℕ) (at n : ℕ) (h : at < length (nybbles bytes)) (e : 
         let none : drop (at + 1) (nybbles bytes) ≡ [] = drop-of-length-le (nybbles bytes) k in
         rw q (record {
           divides = ap codesOf (here ∙ ap (λ (r : List ℕ). n ∷ r) none) ∙ (codes-lone n l ∙ ap (λ (r : List ℕ). wide n lastG 1 ∷ codesOf r) (sym none));
-          some = wide-some n lastG 1;
+          some = wide-some n lastG 1 (omega arith) .0;
           few = wide-few n lastG 1 (omega arith);
           one = omega arith;
           two = omega arith;

@@ -50,11 +50,11 @@ early (n ∷ g ∷ ns) ms st p k l e f =
     by-bool (ltb n 8)
     (λ b. let h = ltb-true n 8 b in
     rw (codes-single n (g ∷ ns ++ ms) h, codes-single n (g ∷ ns) h)
-    (alike (single n) (single-some n) (omega arith) st p _ (length (g ∷ ns)) k l (omega arith) e f _ _
+    (alike (single n) (single-some n .0) (omega arith) st p _ (length (g ∷ ns)) k l (omega arith) e f _ _
     (early (g ∷ ns) ms (after st (single n)) (p + 1) k l)))
     (λ b. let h = ltb-false n 8 b in
     rw (codes-wide n g (ns ++ ms) h, codes-wide n g ns h)
-    (alike (wide n g 2) (wide-some n g 2) (omega arith) st p _ (length ns) k l (omega arith) e f _ _
+    (alike (wide n g 2) (wide-some n g 2 (omega arith) .0) (omega arith) st p _ (length ns) k l (omega arith) e f _ _
     (early ns ms (after st (wide n g 2)) (p + 2) k l)))
 
 spread-out : (bs cs : List ℕ) → nybbles (bs ++ cs) ≡ nybbles bs ++ nybbles cs

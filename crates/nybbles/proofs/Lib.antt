@@ -2,6 +2,7 @@
 mod Codes
 mod Reading
 pub mod Places
+pub mod Plain
 pub mod Sound
 pub mod Early
 mod Stored

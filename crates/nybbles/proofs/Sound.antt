@@ -20,7 +20,7 @@ use Rattle.nybbles.specs.declared.code.Code.{Code}
 use Rattle.nybbles.specs.Codes.{nybbles, codesOf}
 use Rattle.nybbles.specs.Read.{State, fault, after, atEnd, readCodes, start, readNybbles}
 use Rattle.nybbles.specs.Inner.{Passes}
-use Rattle.nybbles.proofs.Codes.{All, more, HasMonths, codes-some}
+use Rattle.nybbles.proofs.Codes.{All, more, Some, codes-some}
 use Rattle.nybbles.proofs.Reading.{passes, leap-room}
 
 by-mark : {A : Type 0} (m : Mark) → (m ≡ Continues → A) → ((k : Sign) → m ≡ Leaps k → A) → (m ≡ Expires → A) → A
@@ -54,16 +54,16 @@ module _ (st : State) (c : Code) (base : ℕ) (r : Right base st) (h : 0 < c .mo
       by-cond Formed (ltb p count) (λ b. never 6 p (omega arith))
       (λ b. rw (m, month) (sound-end base (st .gap + c .months) (st .schedule) (omega arith) (s .gap) (rw month at (s .total)) (r .sound)))
 
-sound : (cs : List Code) (count p base : ℕ) (st : State) → All HasMonths cs → Right base st → Formed (readCodes count p st cs)
+sound : (cs : List Code) (count p base : ℕ) (st : State) → All Some cs → Right base st → Formed (readCodes count p st cs)
 unfolding readCodes
 sound [] count p base st a r = never 1 p (omega arith)
 sound (c ∷ cs) count p base st (more h a) r =
     by-cond Formed (eqb (fault st c) 0)
     (λ e. let s = passes st c (eqb-true (fault st c) 0 e) in
     by-mark (c .mark)
-    (λ m. simp m (sound cs count (p + c .size) base (after st c) a (right-on st c base r h s m)))
-    (λ k m. simp m (sound cs count (p + c .size) (st .total + c .months) (after st c) a (right-leap st c base r h s k m)))
-    (λ m. simp m (right-end st c base r h s m count (p + c .size))))
+    (λ m. simp m (sound cs count (p + c .size) base (after st c) a (right-on st c base r (h .0) s m)))
+    (λ k m. simp m (sound cs count (p + c .size) (st .total + c .months) (after st c) a (right-leap st c base r (h .0) s k m)))
+    (λ m. simp m (right-end st c base r (h .0) s m count (p + c .size))))
     (λ e. never (fault st c) p (pos-of-ne-zero (eqb-false (fault st c) 0 e)))
 
 pub read-formed : (bytes : List ℕ) → Formed (readNybbles bytes)
