@@ -24,17 +24,14 @@ def blocks(path):
             expected.append(row)
 
 
-passed = 0
 for path in sys.argv[1:]:
     found = 0
     for number, command, expected in blocks(path):
         run = subprocess.run(["bash", "-c", command], capture_output=True, text=True)
         printed = run.stdout.rstrip("\n").split("\n") if run.stdout else []
         if printed != expected:
-            sys.exit(f"FAILED: {path}:{number}: {command}\n expected {expected}\n printed  {printed}\n{run.stderr}")
+            sys.exit(f"{path}:{number}: {command}\n expected {expected}\n printed  {printed}\n{run.stderr}")
+        print(f"ok {path}:{number} prints what it shows")
         found += 1
     if found == 0:
-        sys.exit(f"FAILED: {path} has no command to run")
-    print(f"ok {path}: {found} commands print what it shows")
-    passed += found
-print(f"{passed} passed, 0 failed")
+        sys.exit(f"{path} has no command to run")

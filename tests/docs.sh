@@ -1,11 +1,20 @@
 #!/usr/bin/env bash
-# Every command shown in README.md and docs/CLASS.md prints what is shown, and the pictures are as drawn from the program's answers.
-set -euo pipefail
-cd "$(dirname "${BASH_SOURCE[0]}")/.."
-./leapsec help >/dev/null 2>&1 # builds the program if need be, so that no command below prints that
-python3 tools/pictures.py --check
-echo "ok docs/smoothing.svg and docs/knowledge.svg are as drawn"
-python3 tests/docs.py README.md docs/CLASS.md >target/docs.out || { cat target/docs.out; exit 1; }
-sed '$d' target/docs.out
-n=$(tail -n 1 target/docs.out | cut -d ' ' -f 1)
-echo "$((n + 1)) passed, 0 failed"
+# Every command shown in README.md prints what is shown, and its C example compiles and does what it says.
+source "$(dirname "${BASH_SOURCE[0]}")/common.bash"
+
+cd "$root"
+[ -x target/bin/figures ] || quietly "rt check figures" rt check figures
+quietly "README.md" python3 tests/docs.py README.md
+count_oks README.md
+
+# the example of "In C", between the usual first and last lines
+{
+    printf '#include <stdio.h>\n#include "leap.h"\nint main(void) {\n'
+    awk '/^## In C$/ { on = 1 } /^## In Rust$/ { on = 0 } on && /^    / { print }' README.md |
+        sed 's|/\* nanos is \([0-9]*\) \*/|if (nanos == \1u) { puts("ok the C example of README.md"); return 0; }|'
+    printf 'return 1;\n}\n'
+} >"$built/readme.c"
+quietly "the C example does not compile" gcc -std=c99 "${strict[@]}" "$built/readme.c" "$LEAP_LIB_DIR/libleap.a" -o "$built/readme"
+quietly "the C example" "$built/readme"
+count_oks "the C example"
+finish
