@@ -13,8 +13,9 @@
  *         assert(nanos == UINT64_C(86399001000000));
  *
  * Every call returns LEAP_OK (0) with an answer, or the number of a refusal.
- * Every output is set by every call: on a refusal numbers are 0, a schedule is
- * blank (all 514 words 0), and a writer's buffer is left as it was.
+ * Every output is set by every call. On a refusal the numbers asked for are 0,
+ * a schedule is blank (all 514 words 0), and a writer's buffer is left as it
+ * was; a reader's *place is where it stopped, and 0 if the list is taken.
  *
  * No pointer may be null. An empty input or output may be given as any pointer
  * that isn't null, with length 0. Pointers must be aligned for their type. An

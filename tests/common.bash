@@ -54,7 +54,8 @@ if [ -n "${LEAP_LIB_DIR-}" ]; then
     LEAP_LIB_DIR=$(cd "$LEAP_LIB_DIR" && pwd)
 else
     LEAP_LIB_DIR=$root/target/staticlib
-    if ! [ -f "$LEAP_LIB_DIR/libleap.a" ]; then
+    archive=$LEAP_LIB_DIR/libleap.a
+    if ! [ -f "$archive" ] || [ -n "$(find "$root/crates" "$root/crates.txt" -newer "$archive" -print -quit)" ]; then
         cd "$root"
         quietly "rt staticlib leap" rt staticlib leap
     fi

@@ -12,7 +12,7 @@ quietly "compare does not build" cargo build --offline --locked --release -p com
 compare=$root/target/rust/release/compare
 status=0
 "$compare" "$@" >"$log" 2>&1 || status=$?
-if [ "$status" -ge 128 ]; then
+if [ "$status" -ge 101 ]; then
     COMPARE_TRACE=yes "$compare" "$@" 2>&1 >/dev/null | tail -n 200 | tac | sed '/^#\[test\]/q' | tac || true
     fail "compare: this call stopped the program (status $status)"
 elif [ "$status" -ne 0 ]; then

@@ -3,7 +3,7 @@
 source "$(dirname "${BASH_SOURCE[0]}")/common.bash"
 
 cd "$root"
-[ -x target/bin/figures ] || quietly "rt check figures" rt check figures
+quietly "rt check figures" rt check figures
 quietly "README.md" python3 tests/docs.py README.md
 count_oks README.md
 

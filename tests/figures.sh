@@ -4,7 +4,7 @@
 source "$(dirname "${BASH_SOURCE[0]}")/common.bash"
 
 cd "$root"
-[ -x target/bin/figures ] || quietly "rt check figures" rt check figures
+quietly "rt check figures" rt check figures
 quietly "the second program does not build" env -C rust cargo build --offline --locked --quiet --release -p second
 second=target/rust/release/second
 target/bin/figures >"$built/figures.proved"

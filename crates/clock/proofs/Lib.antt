@@ -7,6 +7,7 @@ pub mod Instant
 pub mod Back
 pub mod Rise
 pub mod Exact
+pub mod Taken
 pub mod Agree
 pub mod Differ
 pub mod Numbers

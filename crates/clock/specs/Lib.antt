@@ -4,6 +4,7 @@ pub mod Smoothed
 pub mod Document002
 pub mod Known
 pub mod Question
+pub mod Taken
 pub mod Lists
 pub mod Answers
 pub mod Inner

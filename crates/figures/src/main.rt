@@ -175,6 +175,12 @@ fn list_a() {
     written(b"A nybbles", s);
 }
 
+// By the bytecode rule 0x82 is 18 months, and 36 months is 0x85.
+fn bytecodes() {
+    nybbles(b"82", b"\x82\xF4");
+    nybbles(b"85", b"\x85\xF4");
+}
+
 fn list_b() {
     let list = b"\x00\x11\x11\x11\x12\x11\x34\x31\x21\x12\x22\x9D\x56\x52\x87\xFA";
     nybbles(b"B", list);
@@ -230,6 +236,7 @@ fn main() {
     months();
     list_a();
     list_b();
+    bytecodes();
     text(b"N", b"6-5?");
     let whole = text::read_text(b"999?").schedule;
     written(b"999", whole);

@@ -89,6 +89,8 @@ pub fn lines() -> Vec<String> {
     all.extend([57_754, 57_753, 59_548].map(|mjd| offset("B DTAI", &b.schedule, mjd)));
     all.push(smooth("B UTS", &b.schedule, 59_548, 85_399_000_000));
     all.push(atomic("B TAI", &b.schedule, 59_548, 85_399_000_000));
+    all.push(reading("82", &read_nybbles(b"\x82\xF4")));
+    all.push(reading("85", &read_nybbles(b"\x85\xF4")));
     all.push(reading("N", &read_text(b"6-5?")));
     all.push(written("999", &read_text(b"999?").schedule));
     for (name, raw, seconds) in [

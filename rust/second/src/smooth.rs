@@ -14,7 +14,7 @@ pub fn uts(micros: u64, leap_warning: i8) -> i128 {
     let midnight = 0;
     let utc = midnight + i128::from(micros) * 1_000;
     if utc - midnight >= hms(23, 59, 60) {
-        // in the middle of an inserted leap second
+        // the extra second of a longer day
         midnight + hms(23, 59, 59) + MS + (utc - midnight - hms(23, 59, 60)) * 999 / 1_000
     } else {
         let r = midnight + hms(24, 0, 0) + warning * S - utc;
