@@ -2,4 +2,3 @@ pub mod Bytes
 pub mod Read
 pub mod Write
 pub mod Inner
-pub mod Table

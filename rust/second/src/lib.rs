@@ -15,6 +15,7 @@ pub mod calendar;
 pub mod clock;
 pub mod figures;
 pub mod nybbles;
+pub mod plain;
 pub mod refusal;
 pub mod schedule;
 pub mod smooth;

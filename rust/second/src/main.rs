@@ -1,4 +1,5 @@
 //! `second figures`   every figure of the papers, one a line (see figures.rs)
+//! `second plain`     the figures in the lines of the proved program (see plain.rs)
 //! `second ask`       a question a line from standard input, an answer a line
 //! `second WORD ..`   one question of `ask` given as arguments; `show` then
 //!                    prints a line a stretch
@@ -12,7 +13,7 @@ use std::io::{self, Write};
 use std::process::ExitCode;
 
 use second::ask::{self, Desk, Reply};
-use second::figures;
+use second::{figures, plain};
 
 fn single(words: &[String]) -> io::Result<ExitCode> {
     let fields: Vec<&[u8]> = words.iter().map(|w| w.as_bytes()).collect();
@@ -51,6 +52,13 @@ fn main() -> io::Result<ExitCode> {
                 }
             }
             Ok(status)
+        }
+        ["plain"] => {
+            let mut out = io::stdout().lock();
+            for line in plain::lines() {
+                writeln!(out, "{line}")?;
+            }
+            Ok(ExitCode::SUCCESS)
         }
         ["ask"] => ask::run(io::stdin().lock(), io::stdout().lock()).map(|()| ExitCode::SUCCESS),
         _ => single(&words),

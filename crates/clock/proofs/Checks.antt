@@ -1,0 +1,192 @@
+-- The checks of a question: what each says when it is passed, and that they do not look at the value asked for.
+-- Assumes nothing.
+use mathlib.Core.Bool.{Bool, true, false, not, _&&_, _||_, and-eq-true-iff}
+use mathlib.Core.Logic.{_⊎_, inl, inr}
+use mathlib.Core.Path.{_≡_, refl, sym, _∙_}
+use Prim.Native.Nat.{ℕ, zero, suc, _≤_, _<_}
+use native.Mathlib.Omega.{arith}
+use lib.Dec.{leb, ltb, eqb}
+use borrow.Author.Tests.{ltb-true, leb-true, eqb-true, lt-ltb, le-ltb, le-leb, eq-eqb, ne-eqb, not-true, not-false}
+use Rattle.refusals.specs.Refusals.{before1972, noInstant, notKnown, notWellFormed}
+use Rattle.calendar.specs.Calendar.{firstDay}
+use Rattle.schedule.specs.declared.Schedule.{Schedule}
+use Rattle.schedule.specs.Schedule.{wellFormed}
+use Rattle.clock.specs.Days.{longDay, ending, dayLength}
+use Rattle.clock.specs.Smoothed.{nanosPerDay}
+use Rattle.clock.specs.Known.{lastDay, nanosCutoff, knownTo, known, knownDate}
+use Rattle.clock.specs.Question.{Answer, given, refused, require, atDate, atInstant, atUtc, atUts}
+use Rattle.clock.specs.Inner.{told}
+use Rattle.clock.proofs.Tai.{length-most}
+
+-- ---- the end of knowledge
+
+-- a time of a day is known before the last day, and on it below the cut-off
+abbrev pub Sure : ℕ → ℕ → ℕ → ℕ → Type 0
+Sure last cutoff day t = (day < last) ⊎ ((day ≡ last) × (t < cutoff))
+
+pub known-before : {last : ℕ} (cutoff : ℕ) {day : ℕ} (t : ℕ) → day < last → knownTo last cutoff day t ≡ true
+unfolding knownTo
+known-before {last} cutoff {day} t h = rw (lt-ltb day last h)
+
+pub known-last : {last : ℕ} (cutoff : ℕ) {day : ℕ} (t : ℕ) → day ≡ last → knownTo last cutoff day t ≡ ltb t cutoff
+unfolding knownTo
+known-last {last} cutoff {day} t h = rw (le-ltb day last (omega arith), eq-eqb day last h)
+
+pub known-after : {last : ℕ} (cutoff : ℕ) {day : ℕ} (t : ℕ) → last < day → knownTo last cutoff day t ≡ false
+unfolding knownTo
+known-after {last} cutoff {day} t h = rw (le-ltb day last (omega arith), ne-eqb day last (λ e. omega arith))
+
+pub sure-known : {last cutoff day t : ℕ} → Sure last cutoff day t → knownTo last cutoff day t ≡ true
+sure-known {cutoff = cutoff} {t = t} (inl h) = known-before cutoff t h
+sure-known {cutoff = cutoff} {t = t} (inr h) = known-last cutoff t (h .0) ∙ lt-ltb t cutoff (h .1)
+
+pub known-sure : (last cutoff day t : ℕ) → knownTo last cutoff day t ≡ true → Sure last cutoff day t
+unfolding knownTo
+known-sure last cutoff day t = go (ltb day last) refl
+  where
+    go : (b : Bool) → ltb day last ≡ b → (b || (eqb day last && ltb t cutoff)) ≡ true → Sure last cutoff day t
+    go true e h = inl (ltb-true day last e)
+    go false e h =
+        let p = and-eq-true-iff (eqb day last) (ltb t cutoff) .0 h in
+        inr (eqb-true day last (p .0), ltb-true t cutoff (p .1))
+
+pub sure-through : {last cutoff day t : ℕ} → Sure last cutoff day t → day ≤ last
+sure-through (inl h) = omega arith
+sure-through (inr h) = omega arith
+
+-- ---- one check
+
+pub pass : {A : Type 0} {a : Answer A} {b : Bool} (n : ℕ) → b ≡ true → require b n a ≡ a
+pass n e = rw e
+
+pub stop : {A : Type 0} (a : Answer A) {b : Bool} (n : ℕ) → b ≡ false → require b n a ≡ refused n
+stop a n e = rw e
+
+-- what the code's flag says of the test that it stands for
+pub passed : {a b : Bool} → b ≡ a → not b ≡ false → a ≡ true
+passed {a} {b} e h = sym e ∙ not-false b h
+
+pub failed : {a b : Bool} → b ≡ a → not b ≡ true → a ≡ false
+failed {a} {b} e h = sym e ∙ not-true b h
+
+-- a check that was passed, and what was asked after it
+pub required : {A : Type 0} {a : Answer A} {v : A} (b : Bool) (n : ℕ) → require b n a ≡ given v → (b ≡ true) × (a ≡ given v)
+required true n h = (refl, h)
+required false n h = absurd (let z : _≡_ {A = ℕ} 0 1 = cc in omega arith)
+
+pub given-is : {A : Type 0} {a b : A} → given a ≡ given b → a ≡ b
+given-is h = cc
+
+-- ---- all the checks of a question
+
+-- what holds when a date is answered
+pub record OnDate {A : Type 0} (s : Schedule) (day : ℕ) (v x : A) : Type 0 where
+  pub well : wellFormed s ≡ true
+  pub from : firstDay ≤ day
+  pub through : day ≤ lastDay s
+  pub is : v ≡ x
+
+pub on-date : {A : Type 0} (s : Schedule) (day : ℕ) (v x : A) → atDate s day v ≡ given x → OnDate s day v x
+on-date s day v x h =
+    let a = required (wellFormed s) notWellFormed h in
+    let b = required (leb firstDay day) before1972 (a .1) in
+    let c = required (knownDate s day) notKnown (b .1) in
+    record { well = a .0; from = leb-true firstDay day (b .0); through = leb-true day (lastDay s) (c .0); is = given-is (c .1) }
+
+-- what holds when an instant passes the checks that UTC and UTS share, and that it does then
+pub record OnInstant (s : Schedule) (limit cutoff day t : ℕ) : Type 0 where
+  pub well : wellFormed s ≡ true
+  pub from : firstDay ≤ day
+  pub below : t < limit
+  pub sure : Sure (lastDay s) cutoff day t
+
+pub on-instant : {A : Type 0} {a : Answer A} {x : A} (s : Schedule) (limit cutoff day t : ℕ) → atInstant s limit cutoff day t a ≡ given x
+    → OnInstant s limit cutoff day t × (a ≡ given x)
+on-instant s limit cutoff day t h =
+    let p = required (wellFormed s) notWellFormed h in
+    let q = required (leb firstDay day) before1972 (p .1) in
+    let u = required (ltb t limit) noInstant (q .1) in
+    let v = required (known s cutoff day t) notKnown (u .1) in (
+      record { well = p .0; from = leb-true firstDay day (q .0); below = ltb-true t limit (u .0); sure = known-sure (lastDay s) cutoff day t (v .0) },
+      v .1,
+    )
+
+pub instant-passed : {A : Type 0} {a : Answer A} (s : Schedule) (limit cutoff day t : ℕ) → OnInstant s limit cutoff day t → atInstant s limit cutoff day t a ≡ a
+instant-passed s limit cutoff day t on =
+    pass notWellFormed (on .well)
+    ∙ pass before1972 (le-leb firstDay day (on .from))
+    ∙ pass noInstant (lt-ltb t limit (on .below))
+    ∙ pass notKnown (sure-known (on .sure))
+
+-- what holds when an instant of UTC is answered, and that it is then
+pub record OnUtc {A : Type 0} (s : Schedule) (cutoff day t : ℕ) (v x : A) : Type 0 where
+  pub well : wellFormed s ≡ true
+  pub from : firstDay ≤ day
+  pub sure : Sure (lastDay s) cutoff day t
+  pub below : t < dayLength (ending s day)
+  pub is : v ≡ x
+
+pub on-utc : {A : Type 0} (s : Schedule) (cutoff day t : ℕ) (v x : A) → atUtc s cutoff day t v ≡ given x → OnUtc s cutoff day t v x
+on-utc s cutoff day t v x h =
+    let p = on-instant s longDay cutoff day t h in
+    let q = required (ltb t (dayLength (ending s day))) noInstant (p .1) in
+    record { well = p .0 .well; from = p .0 .from; sure = p .0 .sure; below = ltb-true t (dayLength (ending s day)) (q .0); is = given-is (q .1) }
+
+pub utc-answered : {A : Type 0} (s : Schedule) (cutoff day t : ℕ) (v : A) → wellFormed s ≡ true → firstDay ≤ day → Sure (lastDay s) cutoff day t
+    → t < dayLength (ending s day) → atUtc s cutoff day t v ≡ given v
+utc-answered s cutoff day t v w from sure below =
+    instant-passed s longDay cutoff day t (record { well = w; from = from; below = omega (arith, length-most (ending s day)); sure = sure })
+    ∙ pass noInstant (lt-ltb t (dayLength (ending s day)) below)
+
+-- what holds when an instant of UTS is answered
+pub on-uts : {A : Type 0} (s : Schedule) (day u : ℕ) (v x : A) → atUts s day u v ≡ given x → OnInstant s nanosPerDay nanosCutoff day u × (v ≡ x)
+on-uts s day u v x h = let p = on-instant s nanosPerDay nanosCutoff day u h in (p .0, given-is (p .1))
+
+-- ---- the checks do not look at what comes after them: what the number of a chain says of every question that it stands before
+
+-- two answers to the same checks: both pass, and the second goes on with b; or both are refused alike
+pub data Then {A : Type 0} (b : Answer A) : Answer (Unit {0}) → Answer A → Type 0 where
+  both-pass : Then b (given tt) b
+  both-refused : (n : ℕ) → Then b (refused n) (refused n)
+
+require-then : {A : Type 0} {b : Answer A} {a : Answer (Unit {0})} {a′ : Answer A} (test : Bool) (n : ℕ) → Then b a a′ → Then b (require test n a) (require test n a′)
+require-then true n h = h
+require-then false n h = both-refused n
+
+pub date-then : {A : Type 0} (s : Schedule) (date : ℕ) (v : A) → Then (given v) (atDate s date tt) (atDate s date v)
+date-then s date v =
+    require-then (wellFormed s) notWellFormed
+    (require-then (leb firstDay date) before1972
+    (require-then (knownDate s date) notKnown both-pass))
+
+checks-then : {A : Type 0} {b : Answer A} {a : Answer (Unit {0})} {a′ : Answer A} (s : Schedule) (limit cutoff day t : ℕ) → Then b a a′
+    → Then b (atInstant s limit cutoff day t a) (atInstant s limit cutoff day t a′)
+checks-then s limit cutoff day t h =
+    require-then (wellFormed s) notWellFormed
+    (require-then (leb firstDay day) before1972
+    (require-then (ltb t limit) noInstant
+    (require-then (known s cutoff day t) notKnown h)))
+
+pub instant-then : {A : Type 0} (s : Schedule) (limit cutoff day t : ℕ) (b : Answer A) → Then b (atInstant s limit cutoff day t (given tt)) (atInstant s limit cutoff day t b)
+instant-then s limit cutoff day t b = checks-then s limit cutoff day t both-pass
+
+pub utc-then : {A : Type 0} (s : Schedule) (cutoff day t : ℕ) (v : A) → Then (given v) (atUtc s cutoff day t tt) (atUtc s cutoff day t v)
+utc-then s cutoff day t v = checks-then s longDay cutoff day t (require-then (ltb t (dayLength (ending s day))) noInstant both-pass)
+
+-- number 0 says that the checks are passed, and any other is the refusal
+pub all-passed : {a : Answer (Unit {0})} (n : ℕ) → a ≡ told n → n ≡ 0 → a ≡ given tt
+all-passed zero e z = e
+all-passed (suc n) e z = absurd (omega arith)
+
+pub then-passed : {A : Type 0} {b : Answer A} {a : Answer (Unit {0})} {a′ : Answer A} → Then b a a′ → a ≡ given tt → a′ ≡ b
+then-passed both-pass e = refl
+then-passed (both-refused n) e = absurd (let z : _≡_ {A = ℕ} 0 1 = cc in omega arith)
+
+pub then-refused : {A : Type 0} {b : Answer A} {a : Answer (Unit {0})} {a′ : Answer A} (n : ℕ) → Then b a a′ → a ≡ told n → (n ≡ 0 → ⊥) → a′ ≡ refused n
+then-refused zero h e f = absurd (f refl)
+then-refused (suc n) both-pass e f = absurd (let z : _≡_ {A = ℕ} 0 1 = cc in omega arith)
+then-refused (suc n) (both-refused m) e f = cc
+
+pub told-refused : (n : ℕ) → (n ≡ 0 → ⊥) → refused n ≡ told n
+told-refused zero f = absurd (f refl)
+told-refused (suc n) f = refl

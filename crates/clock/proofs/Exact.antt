@@ -1,0 +1,102 @@
+-- TAI and UTS in the integers: the definitions, which compute in ℕ, are the paper's formulas; and in an inserted second DTAI is still the old one.
+-- Assumes nothing.
+use mathlib.Core.Bool.{Bool, true, false, cond}
+use mathlib.Core.Path.{_≡_, refl, sym, ap, ap₂, _∙_}
+use Prim.Native.Nat.{ℕ, zero, suc, _+_, _-_, _*_, _≤_, _<_}
+use native.Mathlib.Decide.{decLt}
+use native.Mathlib.Omega.{arith}
+use lib.Dec.{ltb}
+use lib.IntN.{ℤ, pos, negsuc, subℕ, negℤ, negℤ-negℤ, _+ℤ_, _-ℤ_, _*ℤ_}
+use borrow.Author.Tests.{ltb-true, ltb-false, lt-ltb, le-ltb}
+use Rattle.schedule.specs.declared.Sign.the-variants.{Positive, Negative}
+use Rattle.schedule.specs.declared.Schedule.{Schedule}
+use Rattle.schedule.specs.Schedule.{leapsOf, wellFormed}
+use Rattle.calendar.specs.Calendar.{firstDay}
+use Rattle.clock.specs.declared.days.Ending.{Ending}
+use Rattle.clock.specs.declared.days.Ending.the-variants.{Ordinary, Inserted, Deleted}
+use Rattle.clock.specs.Days.{microsPerSecond, microsPerDay, firstDtai, tally, ending, dayLength, dtai, tai}
+use Rattle.clock.specs.Smoothed.{smoothing, minus, uts}
+use Rattle.clock.specs.Known.{taiCutoff}
+use Rattle.clock.specs.Question.{given, utcToTai}
+use Rattle.clock.proofs.Leaps.{part}
+use Rattle.clock.proofs.Tai.{length-least, deleted-few, tally-after}
+use Rattle.clock.proofs.Checks.{on-utc}
+
+-- x - y, where y is not above x
+plus-negative : (x y : ℕ) → y ≤ x → pos x +ℤ negℤ (pos y) ≡ pos (x - y)
+plus-negative x zero h = ap pos (omega arith)
+plus-negative x (suc y) h = rw (le-ltb x (suc y) h)
+
+-- x + 1,000,000 (a - b), where nothing is cut off
+plus-times : (x a b : ℕ) → microsPerSecond * b ≤ x + microsPerSecond * a
+    → pos (x + microsPerSecond * a - microsPerSecond * b) ≡ pos x +ℤ pos microsPerSecond *ℤ subℕ a b
+plus-times x a b h = go (ltb a b) refl
+  where
+    go : (t : Bool) → ltb a b ≡ t
+        → pos (x + microsPerSecond * a - microsPerSecond * b) ≡ pos x +ℤ pos microsPerSecond *ℤ cond t (negsuc (b - suc a)) (pos (a - b))
+    go true e =
+        let l = ltb-true a b e in
+        ap pos (omega arith) ∙ sym (plus-negative x (microsPerSecond * suc (b - suc a)) (omega arith))
+    go false e = let l = ltb-false a b e in ap pos (omega arith)
+
+-- (a + 1) - b is one more than a - b
+minus-more : (a b : ℕ) → subℕ (a + 1) b ≡ subℕ a b +ℤ pos 1
+minus-more a b =
+    elim (decLt a b) [
+      | yes l ↦
+          elim (decLt (a + 1) b) [
+            | yes m ↦ rw (lt-ltb (a + 1) b m, lt-ltb a b l, lt-ltb 1 (suc (b - suc a)) (omega arith)) (ap negsuc (omega arith))
+            | no m ↦ rw (le-ltb (a + 1) b (omega arith), lt-ltb a b l, le-ltb 1 (suc (b - suc a)) (omega arith)) (ap pos (omega arith))
+          ]
+      | no l ↦ rw (le-ltb (a + 1) b (omega arith), le-ltb a b (omega arith)) (ap pos (omega arith))
+    ]
+
+-- only a day with an inserted second has a microsecond 86,400,000,000
+inserted-after : (s : Schedule) (day t : ℕ) → wellFormed s ≡ true → microsPerDay ≤ t → (w : Ending) → t < dayLength w
+    → tally Positive (leapsOf s) (day + 1) ≡ tally Positive (leapsOf s) day + part Positive w
+    → tally Negative (leapsOf s) (day + 1) ≡ tally Negative (leapsOf s) day + part Negative w → dtai s (day + 1) ≡ dtai s day +ℤ pos 1
+inserted-after s day t v i Ordinary h p q = absurd (omega arith)
+inserted-after s day t v i Inserted h p q =
+    let up : firstDtai + tally Positive (leapsOf s) (day + 1) ≡ firstDtai + tally Positive (leapsOf s) day + 1 = omega arith in
+    let down : tally Negative (leapsOf s) (day + 1) ≡ tally Negative (leapsOf s) day = omega arith in
+    ap₂ subℕ up down ∙ minus-more (firstDtai + tally Positive (leapsOf s) day) (tally Negative (leapsOf s) day)
+inserted-after s day t v i Deleted h p q = absurd (omega arith)
+
+-- w, which is +1, -1 or 0 for the leap ending the day
+abbrev pub leapSign : Ending → ℤ
+leapSign Ordinary = pos 0
+leapSign Inserted = pos 1
+leapSign Deleted = negsuc 0
+
+minus-exact : (w : Ending) (a b : ℕ) → b ≤ a → pos (minus w a b) ≡ pos a -ℤ leapSign w *ℤ pos b
+minus-exact Ordinary a b h = sym (plus-negative a (0 * b) (omega arith) ∙ ap pos (omega arith))
+minus-exact Inserted a b h = sym (plus-negative a (1 * b) (omega arith) ∙ ap pos (omega arith))
+minus-exact Deleted a b h = rw (negℤ-negℤ (pos (1 * b))) (ap pos (omega arith))
+
+-- from MJD 41317 on under a well-formed schedule, TAI is 86,400,000,000 x (MJD - 41317) + UTC microseconds + 1,000,000 x DTAI
+pub tai-exact : (s : Schedule) (day t : ℕ) → wellFormed s ≡ true → firstDay ≤ day
+    → pos (tai s day t) ≡ pos (microsPerDay * (day - firstDay) + t) +ℤ pos microsPerSecond *ℤ dtai s day
+unfolding tai
+tai-exact s day t w i =
+    plus-times (microsPerDay * (day - firstDay) + t) (firstDtai + tally Positive (leapsOf s) day) (tally Negative (leapsOf s) day)
+    (omega (arith, deleted-few s w day i))
+
+-- within a day UTS is 1000 x t - w x (1,000,000,000 - R) where R < 1,000,000,000, else 1000 x t, for R = L - t
+pub uts-exact : (w : Ending) (t : ℕ) → t < dayLength w
+    → pos (uts w t) ≡ cond (ltb (dayLength w - t) smoothing) (pos (1000 * t) -ℤ leapSign w *ℤ pos (smoothing - (dayLength w - t))) (pos (1000 * t))
+unfolding uts
+uts-exact w t h = go (ltb (dayLength w - t) smoothing)
+  where
+    go : (b : Bool) → pos (cond b (minus w (1000 * t) (smoothing - (dayLength w - t))) (1000 * t))
+        ≡ cond b (pos (1000 * t) -ℤ leapSign w *ℤ pos (smoothing - (dayLength w - t))) (pos (1000 * t))
+    go true = minus-exact w (1000 * t) (smoothing - (dayLength w - t)) (omega (arith, length-least w))
+    go false = refl
+
+-- in an inserted second TAI is still taken with the DTAI of that day, and the new one, from the next day on, is 1 more
+pub old-dtai-in-leap : (s : Schedule) (day t x : ℕ) → utcToTai s day t ≡ given x → microsPerDay ≤ t
+    → (pos x ≡ pos (microsPerDay * (day - firstDay) + t) +ℤ pos microsPerSecond *ℤ dtai s day) × (dtai s (day + 1) ≡ dtai s day +ℤ pos 1)
+old-dtai-in-leap s day t x h i =
+    let k = on-utc s taiCutoff day t (tai s day t) x h in (
+      ap pos (sym (k .is)) ∙ tai-exact s day t (k .well) (k .from),
+      inserted-after s day t (k .well) i (ending s day) (k .below) (tally-after s (k .well) Positive day) (tally-after s (k .well) Negative day),
+    )

@@ -1,0 +1,179 @@
+-- TAI to UTC and UTC to TAI are inverse to each other.
+-- Assumes nothing.
+use mathlib.Core.Bool.{true}
+use mathlib.Core.Logic.{⊎-elim, _↔_}
+use mathlib.Core.Path.{_≡_, sym, ap, _∙_, subst}
+use Prim.Native.Nat.{ℕ, _+_, _-_, _≤_, _<_}
+use native.Mathlib.Decide.{decLt}
+use native.Mathlib.Omega.{arith}
+use lib.Dec.{leb, ltb}
+use borrow.Author.Tests.{ltb-true, leb-true, leb-false, lt-ltb, le-ltb, le-leb, lt-leb}
+use Rattle.refusals.specs.Refusals.{before1972, notKnown, notWellFormed}
+use Rattle.calendar.specs.Calendar.{firstDay}
+use Rattle.calendar.proofs.Greatest.{Greatest, greatest-found, greatest-is}
+use Rattle.schedule.specs.declared.Schedule.{Schedule}
+use Rattle.schedule.specs.Schedule.{wellFormed}
+use Rattle.clock.specs.Days.{ending, dayLength, tai}
+use Rattle.clock.specs.Known.{lastDay, taiCutoff, knownTo, knownTai}
+use Rattle.clock.specs.Question.{given, require, Utc, firstTai, utcToTai, dayOf, taiToUtc}
+use Rattle.clock.specs.Inner.{mostDtai, nearDay, onDay}
+use Rattle.clock.proofs.Tai.{length-least, expires-later, tai-low, tai-high, tai-in-day, tai-first, tai-next, tai-order, tai-rises}
+use Rattle.clock.proofs.Checks.{Sure, known-before, known-last, known-sure, sure-through, pass, on-utc, utc-answered, required, given-is}
+
+-- x is the TAI of an instant that the schedule knows
+pub record Instant (s : Schedule) (x day t : ℕ) : Type 0 where
+  pub from : firstDay ≤ day
+  pub is : x ≡ tai s day 0 + t
+  pub below : t < dayLength (ending s day)
+  pub sure : Sure (lastDay s) taiCutoff day t
+
+module _ (s : Schedule) (w : wellFormed s ≡ true) where
+  pub last-from : firstDay ≤ lastDay s
+  last-from = omega (arith, expires-later s w)
+
+  -- the TAI from which on nothing is known
+  tai-end : tai s (lastDay s) taiCutoff ≡ tai s (lastDay s) 0 + taiCutoff
+  tai-end = tai-in-day s w (lastDay s) taiCutoff last-from
+
+  -- ---- from the instant to its TAI and back
+
+  pub instant-bounds : {x day t : ℕ} → Instant s x day t → (firstTai ≤ x) × (x < tai s (lastDay s) taiCutoff)
+  instant-bounds {x} {day} {t} i =
+      let first = tai-order s w firstDay day (omega arith) (i .from) in
+      let is = i .is in (
+        omega (arith, tai-first s w),
+        ⊎-elim (λ (q : day < lastDay s). omega (arith, i .below, tai-end, tai-rises s w day (lastDay s) (i .from) q))
+            (λ (q : (day ≡ lastDay s) × (t < taiCutoff)). omega (arith, tai-end, ap (λ d. tai s d 0) (q .0)))
+            (i .sure),
+      )
+
+  instant-day : {x day t : ℕ} → Instant s x day t → Greatest (λ d. leb (tai s d 0) x) (lastDay s) day
+  instant-day {x} {day} i =
+      let is = i .is in
+      record {
+        within = sure-through (i .sure);
+        passes = le-leb (tai s day 0) x (omega arith);
+        above = λ j a b. lt-leb (tai s j 0) x (omega (arith, i .below, tai-rises s w day j (i .from) a));
+      }
+
+  pub instant-value : {x day t : ℕ} → Instant s x day t → _≡_ {A = Utc} (record { day = dayOf s x; micros = x - tai s (dayOf s x) 0 }) (record { day = day; micros = t })
+  instant-value {x} {day} {t} i =
+      let m : x - tai s day 0 ≡ t = omega (arith, i .is) in
+      rw (greatest-is (instant-day i), m)
+
+  -- ---- from the TAI to its instant
+
+  module _ (x : ℕ) (h : firstTai ≤ x) where
+    first-passes : leb (tai s firstDay 0) x ≡ true
+    first-passes = le-leb (tai s firstDay 0) x (omega (arith, tai-first s w))
+
+    day-greatest : Greatest (λ d. leb (tai s d 0) x) (lastDay s) (dayOf s x)
+    day-greatest = greatest-found (λ d. leb (tai s d 0) x) (lastDay s) firstDay last-from first-passes
+
+    day-from : firstDay ≤ dayOf s x
+    day-from =
+        elim (decLt (dayOf s x) firstDay) [
+          | yes l ↦ absurd (omega (arith, tai-first s w, leb-false (tai s firstDay 0) x (day-greatest .above firstDay l last-from)))
+          | no l ↦ omega arith
+        ]
+
+    day-begun : tai s (dayOf s x) 0 ≤ x
+    day-begun = leb-true (tai s (dayOf s x) 0) x (day-greatest .passes)
+
+    before-next : (day : ℕ) → dayOf s x < day → day ≤ lastDay s → x < tai s day 0
+    before-next day a b = leb-false (tai s day 0) x (day-greatest .above day a b)
+
+    -- on the last day, x is known where its microsecond is
+    on-last : (day : ℕ) → lastDay s ≡ day → tai s day 0 ≤ x → ltb (x - tai s day 0) taiCutoff ≡ ltb x (tai s (lastDay s) taiCutoff)
+    on-last day e b =
+        let end : tai s (lastDay s) taiCutoff ≡ tai s day 0 + taiCutoff = omega (arith, tai-end, ap (λ d. tai s d 0) e) in
+        elim (decLt x (tai s day 0 + taiCutoff)) [
+          | yes l ↦ rw (lt-ltb (x - tai s day 0) taiCutoff (omega arith), lt-ltb x (tai s (lastDay s) taiCutoff) (omega arith))
+          | no l ↦ rw (le-ltb (x - tai s day 0) taiCutoff (omega arith), le-ltb x (tai s (lastDay s) taiCutoff) (omega arith))
+        ]
+
+    -- whether x is known is whether its microsecond of its day is
+    known-is : knownTo (lastDay s) taiCutoff (dayOf s x) (x - tai s (dayOf s x) 0) ≡ knownTai s x
+    known-is =
+        elim (decLt (dayOf s x) (lastDay s)) [
+          | yes l ↦ known-before taiCutoff _ l ∙ sym (lt-ltb x (tai s (lastDay s) taiCutoff) (omega (arith, tai-end, before-next (lastDay s) l (omega arith))))
+          | no l ↦
+              let e : dayOf s x ≡ lastDay s = omega (arith, day-greatest .within) in
+              known-last taiCutoff _ e ∙ on-last (dayOf s x) (sym e) day-begun
+        ]
+
+    pub instant-found : x < tai s (lastDay s) taiCutoff → Instant s x (dayOf s x) (x - tai s (dayOf s x) 0)
+    instant-found i =
+        let begun = day-begun in
+        let sure = known-sure (lastDay s) taiCutoff (dayOf s x) (x - tai s (dayOf s x) 0) (known-is ∙ lt-ltb x (tai s (lastDay s) taiCutoff) i) in
+        record {
+          from = day-from;
+          is = omega arith;
+          below =
+              ⊎-elim (λ (q : dayOf s x < lastDay s). omega (arith, tai-next s w (dayOf s x) day-from, before-next (dayOf s x + 1) (omega arith) (omega arith)))
+              (λ (q : (dayOf s x ≡ lastDay s) × (x - tai s (dayOf s x) 0 < taiCutoff)). omega (arith, length-least (ending s (dayOf s x))))
+              sure;
+          sure = sure;
+        }
+
+    -- the answer, by the day of x and its start
+    pub utc-answer : (day start : ℕ) → day ≡ dayOf s x → start ≡ tai s day 0 → onDay day (x - start) (lastDay s) ≡ taiToUtc s x
+    utc-answer day start e b =
+        let z : start ≡ tai s (dayOf s x) 0 = b ∙ ap (λ d. tai s d 0) e in
+        rw (e, z) (ap (λ t. require t notKnown (given (record { day = dayOf s x; micros = x - tai s (dayOf s x) 0 }))) known-is)
+        ∙ sym (pass notWellFormed w ∙ pass before1972 (le-leb firstTai x h))
+
+    -- ---- the day near x has begun by x, and x lies on it or on the next
+    module _ (near : ℕ) (n : near ≡ nearDay x (lastDay s)) where
+      pub near-from : firstDay ≤ near
+      near-from = omega (arith, last-from)
+
+      pub near-begun : tai s near 0 ≤ x
+      near-begun =
+          elim (decLt x mostDtai) [
+            | yes l ↦ let z : near ≡ firstDay = omega (arith, last-from) in rw z (omega (arith, tai-first s w))
+            | no l ↦ omega (arith, tai-high s w near)
+          ]
+
+      is-day : (day : ℕ) → day ≤ lastDay s → tai s day 0 ≤ x → ((j : ℕ) → day < j → j ≤ lastDay s → x < tai s j 0) → day ≡ dayOf s x
+      is-day day a b f = sym (greatest-is (record { within = a; passes = le-leb (tai s day 0) x b; above = λ j p q. lt-leb (tai s j 0) x (f j p q) }))
+
+      pub near-stays : (near < lastDay s → x < tai s near 0 + dayLength (ending s near)) → near ≡ dayOf s x
+      near-stays k =
+          is-day near (omega arith) near-begun (λ j a b. omega (arith, k (omega arith), tai-rises s w near j near-from a))
+
+      pub near-steps : near < lastDay s → tai s near 0 + dayLength (ending s near) ≤ x → near + 1 ≡ dayOf s x
+      near-steps l k =
+          let from = near-from in
+          is-day (near + 1) (omega arith) (omega (arith, tai-next s w near near-from)) (λ j a b. omega (arith, tai-low s w j (omega arith)))
+
+  -- ---- the two questions
+
+  tai-given : {x day t : ℕ} → Instant s x day t → utcToTai s day t ≡ given x
+  tai-given {x} {day} {t} i =
+      utc-answered s taiCutoff day t (tai s day t) w (i .from) (i .sure) (i .below) ∙ ap given (tai-in-day s w day t (i .from) ∙ sym (i .is))
+
+  utc-given : {x day t : ℕ} → Instant s x day t → taiToUtc s x ≡ given (record { day = day; micros = t })
+  utc-given {x} i =
+      let b = instant-bounds i in
+      rw (w, le-leb firstTai x (b .0), lt-ltb x (tai s (lastDay s) taiCutoff) (b .1)) (ap given (instant-value i))
+
+tai-instant : (s : Schedule) (x day t : ℕ) → utcToTai s day t ≡ given x → (wellFormed s ≡ true) × Instant s x day t
+tai-instant s x day t h =
+    let k = on-utc s taiCutoff day t (tai s day t) x h in
+    (k .well, record { from = k .from; is = sym (k .is) ∙ tai-in-day s (k .well) day t (k .from); below = k .below; sure = k .sure })
+
+utc-instant : (s : Schedule) (x : ℕ) (u : Utc) → taiToUtc s x ≡ given u → (wellFormed s ≡ true) × Instant s x (u .day) (u .micros)
+utc-instant s x u h =
+    let a = required (wellFormed s) notWellFormed h in
+    let b = required (leb firstTai x) before1972 (a .1) in
+    let c = required (knownTai s x) notKnown (b .1) in
+    let i = instant-found s (a .0) x (leb-true firstTai x (b .0)) (ltb-true x (tai s (lastDay s) taiCutoff) (c .0)) in
+    (a .0, subst (λ (v : Utc). Instant s x (v .day) (v .micros)) (given-is (c .1)) i)
+
+-- TAI to UTC gives an instant exactly when UTC to TAI gives that instant's TAI
+pub tai-inverse : (s : Schedule) (x : ℕ) (u : Utc) → (taiToUtc s x ≡ given u) ↔ (utcToTai s (u .day) (u .micros) ≡ given x)
+tai-inverse s x u = (
+  λ h. let i = utc-instant s x u h in tai-given s (i .0) (i .1),
+  λ h. let i = tai-instant s x (u .day) (u .micros) h in utc-given s (i .0) (i .1),
+)

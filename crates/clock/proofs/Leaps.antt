@@ -1,0 +1,105 @@
+-- What a list of leaps does from day to day, and what its leaps from some month on do not change.
+-- Assumes nothing.
+use mathlib.Core.Bool.{Bool, true, false, cond, _&&_, and-false}
+use mathlib.Core.List.{List, [], _∷_}
+use mathlib.Core.Path.{_≡_, refl}
+use Prim.Native.Nat.{ℕ, _+_, _≤_, _<_}
+use native.Mathlib.Decide.{decLt}
+use native.Mathlib.Omega.{arith}
+use lib.Dec.{leb, ltb, eqb}
+use borrow.Author.Tests.{ltb-false, eqb-true, eqb-false, le-leb, lt-leb, ne-eqb}
+use Rattle.calendar.specs.Calendar.{monthStart}
+use Rattle.calendar.proofs.Laws.{start-lt, start-le}
+use Rattle.schedule.specs.declared.Sign.{Sign}
+use Rattle.schedule.specs.declared.Sign.the-variants.{Positive, Negative}
+use Rattle.schedule.specs.declared.Leap.{Leap}
+use Rattle.schedule.specs.Schedule.{gapsFit}
+use Rattle.schedule.specs.Extends.{sameSign, below}
+use Rattle.schedule.proofs.Gaps.{fits-lt, first, later}
+use Rattle.clock.specs.declared.days.Ending.{Ending}
+use Rattle.clock.specs.declared.days.Ending.the-variants.{Ordinary, Inserted, Deleted}
+use Rattle.clock.specs.Days.{count, tally, endingOf, endingBefore}
+
+-- a leap that takes effect after the day is not counted
+pub not-yet : (sign : Sign) (l : Leap) (day : ℕ) → day < monthStart (l .month) → count (sameSign sign (l .sign) && leb (monthStart (l .month)) day) ≡ 0
+not-yet sign l day h = rw (lt-leb (monthStart (l .month)) day h, and-false (sameSign sign (l .sign)))
+
+-- ---- the leaps from a month on change nothing before it
+
+pub tally-below : (sign : Sign) (month day : ℕ) (ls : List Leap) → day < monthStart month → tally sign (below month ls) day ≡ tally sign ls day
+unfolding below
+tally-below sign month day [] h = refl
+tally-below sign month day (l ∷ ls) h = go (ltb (l .month) month) refl (tally-below sign month day ls h)
+  where
+    go : (b : Bool) → ltb (l .month) month ≡ b → tally sign (below month ls) day ≡ tally sign ls day
+        → tally sign (cond b (l ∷ below month ls) (below month ls)) day ≡ tally sign (l ∷ ls) day
+    go true p ih = omega arith
+    go false p ih = omega (arith, not-yet sign l day (omega (arith, start-le (ltb-false (l .month) month p))))
+
+pub ending-below : (month next : ℕ) (ls : List Leap) → next < monthStart month → endingBefore (below month ls) next ≡ endingBefore ls next
+unfolding below
+ending-below month next [] h = refl
+ending-below month next (l ∷ ls) h = go (ltb (l .month) month) refl (ending-below month next ls h)
+  where
+    go : (b : Bool) → ltb (l .month) month ≡ b → endingBefore (below month ls) next ≡ endingBefore ls next
+        → endingBefore (cond b (l ∷ below month ls) (below month ls)) next ≡ endingBefore (l ∷ ls) next
+    go true p ih = rw ih
+    go false p ih =
+        let late = start-le (ltb-false (l .month) month p) in
+        rw (ne-eqb (monthStart (l .month)) next (λ q. omega arith)) ih
+
+-- ---- from day to day, where the months rise
+
+-- no leap is in effect yet by the first day of the month before them all
+pub tally-none : (sign : Sign) (from : ℕ) (ls : List Leap) (expiry day : ℕ) → gapsFit from ls expiry ≡ true → day ≤ monthStart from → tally sign ls day ≡ 0
+tally-none sign from [] expiry day h i = refl
+tally-none sign from (l ∷ ls) expiry day h i =
+    let rise = start-lt (fits-lt from (l .month) (first from l ls expiry h)) in
+    omega (arith, not-yet sign l day (omega arith), tally-none sign (l .month) ls expiry day (later from l ls expiry h) (omega arith))
+
+-- what a day's end adds to the tally of a sign
+abbrev pub part : Sign → Ending → ℕ
+part Positive Ordinary = 0
+part Positive Inserted = 1
+part Positive Deleted = 0
+part Negative Ordinary = 0
+part Negative Inserted = 0
+part Negative Deleted = 1
+
+part-ending : (sign own : Sign) → part sign (endingOf own) ≡ count (sameSign sign own && true)
+part-ending Positive Positive = refl
+part-ending Positive Negative = refl
+part-ending Negative Positive = refl
+part-ending Negative Negative = refl
+
+leb-next : (f day : ℕ) → eqb f (day + 1) ≡ false → leb f (day + 1) ≡ leb f day
+leb-next f day h =
+    let ne = eqb-false f (day + 1) h in
+    elim (decLt day f) [
+      | yes l ↦ rw (lt-leb f day l, lt-leb f (day + 1) (omega arith))
+      | no l ↦ rw (le-leb f day (omega arith), le-leb f (day + 1) (omega arith))
+    ]
+
+-- the tally of the next day
+pub tally-next : (sign : Sign) (from : ℕ) (ls : List Leap) (expiry day : ℕ) → gapsFit from ls expiry ≡ true
+    → tally sign ls (day + 1) ≡ tally sign ls day + part sign (endingBefore ls (day + 1))
+tally-next Positive from [] expiry day h = refl
+tally-next Negative from [] expiry day h = refl
+tally-next sign from (l ∷ ls) expiry day h = go (eqb (monthStart (l .month)) (day + 1)) refl (tally-next sign (l .month) ls expiry day rest)
+  where
+    rest : gapsFit (l .month) ls expiry ≡ true
+    rest = later from l ls expiry h
+
+    go : (b : Bool) → eqb (monthStart (l .month)) (day + 1) ≡ b → tally sign ls (day + 1) ≡ tally sign ls day + part sign (endingBefore ls (day + 1))
+        → tally sign (l ∷ ls) (day + 1) ≡ tally sign (l ∷ ls) day + part sign (cond b (endingOf (l .sign)) (endingBefore ls (day + 1)))
+    go true p ih =
+        let now = eqb-true (monthStart (l .month)) (day + 1) p in
+        rw (le-leb (monthStart (l .month)) (day + 1) (omega arith))
+        (omega (
+          arith,
+          part-ending sign (l .sign),
+          not-yet sign l day (omega arith),
+          tally-none sign (l .month) ls expiry day rest (omega arith),
+          tally-none sign (l .month) ls expiry (day + 1) rest (omega arith),
+        ))
+    go false p ih = rw (leb-next (monthStart (l .month)) day p) (omega arith)

@@ -1,0 +1,44 @@
+-- `clock::instants::utc_refusal` meets its contract. Assumes nothing.
+use mathlib.Core.Path.{_≡_, ap, _∙_}
+use Prim.Native.Nat.{ℕ}
+use native.Mathlib.Omega.{arith}
+use borrow.Author.Needs.{needs}
+use borrow.Author.Tests.{lt-ltb, le-ltb}
+use Rattle.refusals.specs.Refusals.{noInstant}
+use Rattle.schedule.specs.declared.Schedule.{Schedule}
+use Rattle.clock.specs.Days.{longDay, ending, dayLength}
+use Rattle.clock.specs.declared.days.Day.{Day}
+use Rattle.clock.specs.Inner.{DayFor}
+use Rattle.clock.proofs.Checks.{pass, stop, sure-through, OnInstant, on-instant, instant-passed, instant-then, all-passed, then-refused, told-refused}
+use Rattle.clock.proofs.Places.{day-known}
+use Rattle.clock.proofs.instants.utc_refusal.Statement.{statement}
+use Rattle.clock.proofs.instants.utc_refusal.Tie as tie
+
+returns : tie.Need-returns
+returns c s f =
+    let a = c .before .before .args in
+    let number = c .before .instant-refusal in
+    then-refused _ (instant-then s longDay (a .cutoff) (a .day) (a .t) _) (number .ensures s f) (c .if1 .taken) ∙ told-refused _ (c .if1 .taken)
+
+-- the day's own length
+length : (s : Schedule) (day t : ℕ) (k : Day) → DayFor s day k → {limit cutoff : ℕ} → OnInstant s limit cutoff day t → dayLength (k .ending) ≡ dayLength (ending s day)
+length s day t k f on = ap (λ d. dayLength (d .ending)) (day-known f (on .well) (on .from) (sure-through (on .sure)))
+
+returns-2 : tie.Need-returns-2
+returns-2 c s f =
+    let a = c .before .before .before .before .args in
+    let passed = all-passed _ (c .before .before .before .instant-refusal .ensures s f) (c .before .before .if1 .left) in
+    let on = on-instant s longDay (a .cutoff) (a .day) (a .t) passed .0 in
+    let own = length s (a .day) (a .t) (a .k) f on in
+    instant-passed s longDay (a .cutoff) (a .day) (a .t) on ∙ pass noInstant (lt-ltb (a .t) (dayLength (ending s (a .day))) (omega arith))
+
+returns-3 : tie.Need-returns-3
+returns-3 c s f =
+    let a = c .before .before .before .before .args in
+    let passed = all-passed _ (c .before .before .before .instant-refusal .ensures s f) (c .before .before .if1 .left) in
+    let on = on-instant s longDay (a .cutoff) (a .day) (a .t) passed .0 in
+    let own = length s (a .day) (a .t) (a .k) f on in
+    instant-passed s longDay (a .cutoff) (a .day) (a .t) on ∙ stop _ noInstant (le-ltb (a .t) (dayLength (ending s (a .day))) (omega arith))
+
+pub utc-refusal-spec : {M : Type 1} → statement M
+utc-refusal-spec = tie.close (tie.spec (λ c κs. search needs) returns (λ c κs. search needs) returns-2 returns-3)

@@ -1,0 +1,9 @@
+-- The clock's definitions, in the order of the paper; Inner has what only private functions are held to.
+pub mod Days
+pub mod Smoothed
+pub mod Document002
+pub mod Known
+pub mod Question
+pub mod Lists
+pub mod Answers
+pub mod Inner

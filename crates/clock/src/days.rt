@@ -1,0 +1,118 @@
+// What a schedule says of a day, from one look at the schedule and one lookup in the calendar.
+ghost use mathlib.Core.Path.{_≡_};
+ghost use Prim.Native.Nat.{_+_, _-_, _≤_, _<_};
+ghost use Rattle.calendar.specs.Calendar.{firstDay, lastMonth, endDay, monthStart, InMonth};
+ghost use Rattle.clock.specs.Days.{dayLength, tai};
+ghost use Rattle.clock.specs.Inner.{endingBy, dayOn, DayFor};
+use crate::look::Survey;
+use crate::look::look;
+use crate::look::wide;
+use calendar::END_DAY;
+use calendar::FIRST_DAY;
+use schedule::LAST_MONTH;
+use schedule::Schedule;
+
+// A second in microseconds.
+const MICROS_PER_SECOND: u64 = 1_000_000;
+
+// A day of 86,400 s in microseconds.
+pub(crate) const MICROS_PER_DAY: u64 = 86_400_000_000;
+
+// A day of 86,401 s in microseconds: no day is longer.
+pub(crate) const LONG_DAY: u64 = 86_401_000_000;
+
+// A day of 86,399 s in microseconds: no day is shorter.
+const SHORT_DAY: u64 = 86_399_000_000;
+
+// DTAI before any leap.
+pub(crate) const FIRST_DTAI: u32 = 10;
+
+// How a day ends: as usual, with a second inserted, or with its last second deleted.
+pub(crate) enum Ending {
+    Ordinary,
+    Inserted,
+    Deleted,
+}
+
+// Whether the schedule is well formed; how many leaps of each sign are in effect on a day, and how the day ends; and Z, the last day
+// before expiry.
+pub(crate) struct Day {
+    pub(crate) well: bool,
+    pub(crate) up: u16,
+    pub(crate) down: u16,
+    pub(crate) ending: Ending,
+    pub(crate) last: u64,
+}
+
+// A day's length in microseconds.
+pub(crate) fn day_length(w: Ending) -> u64
+    ensures { λ r. ⌜ r ≡ dayLength w ⌝ }
+{
+    match w {
+        Ending::Ordinary => MICROS_PER_DAY,
+        Ending::Inserted => LONG_DAY,
+        Ending::Deleted => SHORT_DAY,
+    }
+}
+
+// The last day before a month starts. A month past 2400, at which no list expires, gets the last day of the calendar.
+pub(crate) fn day_before(month: u32) -> u64
+    ensures { λ r. ⌜ (month ≤ lastMonth → r ≡ monthStart month - 1) × (r < endDay) ⌝ }
+{
+    if LAST_MONTH < month {
+        return END_DAY - 1;
+    }
+    calendar::first_day(month as u16) - 1
+}
+
+// The month of the next day, for a day of the month: the same or the next one.
+fn next_month(day: u64, month: u16) -> u16
+    requires { ⌜ month < lastMonth ⌝ }
+    ensures { λ r. ⌜ (InMonth day month → InMonth (day + 1) r) ⌝ }
+{
+    let next = month + 1;
+    if calendar::first_day(next) - 1 == day {
+        return next;
+    }
+    month
+}
+
+// How a day ends, by the leaps in effect on it and on the next day.
+fn ending_by(v: Survey) -> Ending
+    ensures { λ r. ⌜ r ≡ endingBy v ⌝ }
+{
+    if v.up < v.upnext {
+        return Ending::Inserted;
+    }
+    if v.down < v.downnext {
+        return Ending::Deleted;
+    }
+    Ending::Ordinary
+}
+
+// What a schedule says of a day. Outside the calendar the lookup answers month 0, and only `well` and `last` mean something.
+pub(crate) fn day_at(s: Schedule, day: u64) -> Day
+    ensures { λ r. ⌜ DayFor s day r ⌝ }
+{
+    let found = calendar::month_of(day);
+    let month = found.month;
+    let v = look(s, month, next_month(day, month));
+    let ending = ending_by(v);
+    let last = day_before(s.expiry);
+    Day {
+        well: v.well,
+        up: v.up,
+        down: v.down,
+        ending,
+        last,
+    }
+}
+
+// TAI at the start of a day.
+pub(crate) fn start_of(k: Day, day: u64) -> u64
+    requires { ⌜ (firstDay ≤ day) × (day < endDay) × (k .down ≤ day - firstDay) ⌝ }
+    ensures { λ r. ⌜ ((s : Schedule) → k ≡ dayOn s day → r ≡ tai s day 0) ⌝ }
+{
+    MICROS_PER_DAY * (day - FIRST_DAY) + MICROS_PER_SECOND * (FIRST_DTAI + wide(k.up)) as u64
+        - MICROS_PER_SECOND * wide(k.down) as u64
+}

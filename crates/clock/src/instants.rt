@@ -1,0 +1,59 @@
+// What an instant of UTC or of UTS is refused with, in the paper's order, by what the schedule says of its day.
+ghost use mathlib.Core.Path.{_≡_};
+ghost use Rattle.clock.specs.Known.{knownTo};
+ghost use Rattle.clock.specs.Question.{given, atInstant, atUtc};
+ghost use Rattle.clock.specs.Inner.{DayFor, told};
+use crate::days::Day;
+use crate::days::LONG_DAY;
+use crate::days::day_length;
+use calendar::FIRST_DAY;
+use refusals::BEFORE_1972;
+use refusals::NO_INSTANT;
+use refusals::NOT_KNOWN;
+use refusals::NOT_WELL_FORMED;
+use schedule::Schedule;
+
+// Whether a time of a day is known: before the last day, and on it below the cut-off.
+pub(crate) fn is_known(last: u64, cutoff: u64, day: u64, t: u64) -> bool
+    ensures { λ r. ⌜ r ≡ knownTo last cutoff day t ⌝ }
+{
+    if day < last {
+        return true;
+    }
+    if last < day {
+        return false;
+    }
+    t < cutoff
+}
+
+// The number with which an instant of UTC or of UTS is refused, or 0: there is none from `limit` on, and on the last day it is known below
+// the cut-off.
+pub(crate) fn instant_refusal(k: Day, limit: u64, cutoff: u64, day: u64, t: u64) -> u8
+    ensures { λ r. ⌜ ((s : Schedule) → DayFor s day k → atInstant s limit cutoff day t (given tt) ≡ told r) ⌝ }
+{
+    if !k.well {
+        return NOT_WELL_FORMED;
+    }
+    if day < FIRST_DAY {
+        return BEFORE_1972;
+    }
+    if limit <= t {
+        return NO_INSTANT;
+    }
+    if !is_known(k.last, cutoff, day, t) {
+        return NOT_KNOWN;
+    }
+    0
+}
+
+// The number with which an instant of UTC is refused, or 0: at last it must lie within the day's own length.
+pub(crate) fn utc_refusal(k: Day, cutoff: u64, day: u64, t: u64) -> u8
+    ensures { λ r. ⌜ ((s : Schedule) → DayFor s day k → atUtc s cutoff day t tt ≡ told r) ⌝ }
+{
+    let number = instant_refusal(k, LONG_DAY, cutoff, day, t);
+    if number != 0 {
+        return number;
+    }
+    let w = k.ending;
+    if t < day_length(w) { 0 } else { NO_INSTANT }
+}

@@ -1,0 +1,239 @@
+// Runs the figures of the papers and prints them, one a line: a name, then numbers. The file `stdout` has them as the papers give them.
+use clock::DtaiAnswer;
+use clock::MicrosAnswer;
+use clock::TaiAnswer;
+use clock::TaiMicros;
+use clock::UtcAnswer;
+use clock::UtcMicros;
+use clock::UtsAnswer;
+use clock::UtsNanos;
+use schedule::Reading;
+use schedule::Schedule;
+
+fn put(words: &[u8]) {
+    io::write_all(1, words);
+}
+
+fn number(n: u64) {
+    put(b" ");
+    io::print_decimal(1, n);
+}
+
+// What a reader answers: number, place, how many leaps, expiry.
+fn reading(r: Reading) {
+    number(r.number as u64);
+    number(r.place as u64);
+    number(r.schedule.count as u64);
+    number(r.schedule.expiry as u64);
+    put(b"\n");
+}
+
+fn text(name: &[u8], list: &[u8]) {
+    put(name);
+    reading(text::read_text(list));
+}
+
+fn nybbles(name: &[u8], list: &[u8]) {
+    put(name);
+    reading(nybbles::read_nybbles(list));
+}
+
+// The month of the last leap.
+fn last_leap(name: &[u8], s: Schedule) {
+    put(name);
+    let n = s.count;
+    if 0 < n {
+        if n <= 256 {
+            let l = s.leaps[n - 1];
+            number(l.month as u64);
+        }
+    }
+    put(b"\n");
+}
+
+fn wide(x: u8) -> u64 {
+    x as u64
+}
+
+// The nybbles of a schedule in hex: the writer's number, then the bytes.
+fn written(name: &[u8], s: Schedule) {
+    put(name);
+    let mut out = [0u8; 64];
+    let w = nybbles::write_nybbles(s, &mut out);
+    number(w.number as u64);
+    put(b" ");
+    let n = w.count;
+    let mut i: usize = 0;
+    while i < 64 {
+        if i < n {
+            io::print_hex(1, wide(out[i]), 2);
+        }
+        i += 1;
+    }
+    put(b"\n");
+}
+
+fn month(name: &[u8], m: u32) {
+    put(name);
+    number(calendar::month_start(m));
+    put(b"\n");
+}
+
+fn dtai(name: &[u8], s: Schedule, day: u64) {
+    put(name);
+    match clock::dtai(s, day) {
+        DtaiAnswer::Given(d) => {
+            if 0 <= d {
+                number(0);
+                number(d as u64);
+            }
+        }
+        DtaiAnswer::Refused(n) => number(n as u64),
+    }
+    put(b"\n");
+}
+
+fn tai(name: &[u8], s: Schedule, day: u64, micros: u64) {
+    put(name);
+    match clock::utc_to_tai(s, day, UtcMicros(micros)) {
+        TaiAnswer::Given(x) => {
+            number(0);
+            number(x.0);
+        }
+        TaiAnswer::Refused(n) => number(n as u64),
+    }
+    put(b"\n");
+}
+
+fn utc(name: &[u8], s: Schedule, x: u64) {
+    put(name);
+    match clock::tai_to_utc(s, TaiMicros(x)) {
+        UtcAnswer::Given(day, t) => {
+            number(0);
+            number(day);
+            number(t.0);
+        }
+        UtcAnswer::Refused(n) => number(n as u64),
+    }
+    put(b"\n");
+}
+
+// Smoothed time, and what it goes back to.
+fn uts(name: &[u8], s: Schedule, day: u64, micros: u64) {
+    put(name);
+    match clock::utc_to_uts(s, day, UtcMicros(micros)) {
+        UtsAnswer::Given(u) => {
+            number(0);
+            number(u.0);
+            match clock::uts_to_utc(s, day, UtsNanos(u.0)) {
+                MicrosAnswer::Given(t) => number(t.0),
+                MicrosAnswer::Refused(n) => number(n as u64),
+            }
+        }
+        UtsAnswer::Refused(n) => number(n as u64),
+    }
+    put(b"\n");
+}
+
+// P1 to P9: readings.
+fn readings() {
+    text(b"P1", b"5?");
+    text(b"P2", b"");
+    text(b"P3", b"06+5?");
+    text(b"P4", b"1000?");
+    text(b"P5", b"999?");
+    text(b"P6", b"5?\n");
+    nybbles(b"P7", b"\xF4");
+    nybbles(b"P8", b"\x0F");
+    nybbles(b"P9", b"\x9D");
+}
+
+// P10 to P12: smoothed time on the day of the leap.
+fn smoothed(plus: Schedule, minus: Schedule) {
+    uts(b"P10", plus, 41498, 86_400_000_000);
+    uts(b"P11", plus, 41498, 85_401_000_000);
+    uts(b"P11", plus, 41498, 85_402_000_000);
+    uts(b"P12", minus, 41498, 86_398_000_000);
+    uts(b"P12", minus, 41498, 86_399_000_000);
+}
+
+// Month starts: the first and the last of the table, and those of list B's last leap and expiry.
+fn months() {
+    month(b"month 0", 0);
+    month(b"month 2400", 2400);
+    month(b"month 540", 540);
+    month(b"month 599", 599);
+}
+
+fn list_a() {
+    let list = b"6+6+12+12+12+12+12+12+12+18+12+12+24+30+24+12+18+12+12+5?";
+    text(b"A", list);
+    let r = text::read_text(list);
+    let s = r.schedule;
+    last_leap(b"A last", s);
+    dtai(b"A DTAI", s, calendar::month_start(270));
+    written(b"A nybbles", s);
+}
+
+fn list_b() {
+    let list = b"\x00\x11\x11\x11\x12\x11\x34\x31\x21\x12\x22\x9D\x56\x52\x87\xFA";
+    nybbles(b"B", list);
+    let r = nybbles::read_nybbles(list);
+    let s = r.schedule;
+    last_leap(b"B last", s);
+    dtai(b"B DTAI", s, 57754);
+    dtai(b"B DTAI", s, 57753);
+    dtai(b"B DTAI", s, 59548);
+    uts(b"B UTS", s, 59548, 85_399_000_000);
+    tai(b"B TAI", s, 59548, 85_399_000_000);
+}
+
+// The first table of document 002, at a day that ends with an inserted second, and the start of the next day.
+fn inserted(s: Schedule) {
+    uts(b"inserted", s, 41498, 85_400_000_000);
+    uts(b"inserted", s, 41498, 85_401_000_000);
+    uts(b"inserted", s, 41498, 85_402_000_000);
+    uts(b"inserted", s, 41498, 85_403_000_000);
+    uts(b"inserted", s, 41498, 85_404_000_000);
+    uts(b"inserted", s, 41498, 86_399_000_000);
+    uts(b"inserted", s, 41498, 86_400_000_000);
+    uts(b"inserted", s, 41499, 0);
+    uts(b"inserted", s, 41499, 1_000_000);
+}
+
+// The second, at a day that ends with a deleted second.
+fn deleted(s: Schedule) {
+    uts(b"deleted", s, 41498, 85_398_000_000);
+    uts(b"deleted", s, 41498, 85_399_000_000);
+    uts(b"deleted", s, 41498, 85_400_000_000);
+    uts(b"deleted", s, 41498, 85_401_000_000);
+    uts(b"deleted", s, 41498, 85_402_000_000);
+    uts(b"deleted", s, 41498, 85_403_000_000);
+    uts(b"deleted", s, 41498, 86_398_000_000);
+    uts(b"deleted", s, 41499, 0);
+    uts(b"deleted", s, 41499, 1_000_000);
+}
+
+// TAI at the first instant of 1972, and the one instant of it; DTAI in the inserted second is the old one.
+fn atomic(s: Schedule) {
+    tai(b"1972 TAI", s, 41317, 0);
+    utc(b"1972 UTC", s, 10_000_000);
+    tai(b"leap TAI", s, 41498, 86_400_000_000);
+    tai(b"next TAI", s, 41499, 0);
+}
+
+fn main() {
+    readings();
+    let plus = text::read_text(b"6+5?").schedule;
+    let minus = text::read_text(b"6-5?").schedule;
+    smoothed(plus, minus);
+    months();
+    list_a();
+    list_b();
+    text(b"N", b"6-5?");
+    let whole = text::read_text(b"999?").schedule;
+    written(b"999", whole);
+    inserted(plus);
+    deleted(minus);
+    atomic(plus);
+}

@@ -1,0 +1,19 @@
+-- `leap::leap_tai_to_utc` meets its contract. Assumes nothing.
+use borrow.Author.Needs.{needs}
+use Rattle.schedule.specs.declared.Schedule.{Schedule}
+use Rattle.clock.specs.Question.{taiToUtc}
+use Rattle.leap.proofs.Handed.{hands-utc}
+use Rattle.leap.proofs.leap_tai_to_utc.Statement.{statement}
+use Rattle.leap.proofs.leap_tai_to_utc.Tie as tie
+
+pub leap-tai-to-utc-spec : {M : Type 1} → statement M
+leap-tai-to-utc-spec =
+    tie.close
+    (tie.spec
+    (λ c κs. search needs)
+    (λ c κs. search needs)
+    (λ c κs. search needs)
+    (λ c κs. search needs)
+    (λ c κs. search needs)
+    (λ c. let a = c .before .before .before .before .before .args in
+    hands-utc (λ (s : Schedule). taiToUtc s (a .tai)) _ _ (c .before .before .before .before .schedule-of .ensures) _ (c .before .before .before .tai-to-utc .ensures) _ _ _ (c .utc-number .ensures) (c .before .before .utc-day .ensures) (c .before .utc-micros .ensures)))

@@ -1,0 +1,142 @@
+/* leap.h: leap second lists, TAI, UTC and smoothed time (UTS).
+ *
+ * Link with target/staticlib/libleap.a, which `rt staticlib leap` makes.
+ *
+ *     leap_schedule s;
+ *     uint64_t place, nanos;
+ *     static const uint8_t list[] = "6+5?";
+ *     uint8_t no = leap_read_text(list, sizeof list - 1, &s, &place);
+ *     if (no != LEAP_OK)
+ *         fprintf(stderr, "refused with %d at byte %d\n", (int)no, (int)place);
+ *     no = leap_utc_to_uts(&s, 41498, UINT64_C(86400000000), &nanos);
+ *     if (no == LEAP_OK)
+ *         assert(nanos == UINT64_C(86399001000000));
+ *
+ * Every call returns LEAP_OK (0) with an answer, or the number of a refusal.
+ * Every output is set by every call: on a refusal numbers are 0, a schedule is
+ * blank (all 514 words 0), and a writer's buffer is left as it was.
+ *
+ * No pointer may be null. An empty input or output may be given as any pointer
+ * that isn't null, with length 0. Pointers must be aligned for their type. An
+ * output must not overlap another output or an input. Calls keep no state, so
+ * threads may call at the same time; no call uses more than 64 KiB of stack.
+ */
+#ifndef LEAP_H
+#define LEAP_H
+
+#include <stddef.h>
+#include <stdint.h>
+
+#ifdef __cplusplus
+extern "C" {
+#endif
+
+/* What a call returns. */
+enum {
+    LEAP_OK = 0,               /* an answer */
+    LEAP_ENDS_EARLY = 1,       /* the list ends early */
+    LEAP_NOT_ALLOWED = 2,      /* a byte that is not allowed there */
+    LEAP_BAD_GAP = 3,          /* a gap malformed or over 999 */
+    LEAP_PAST_LAST_MONTH = 4,  /* past month 2400, January 2172 */
+    LEAP_TOO_MANY_LEAPS = 5,   /* more than 256 leaps */
+    LEAP_AFTER_END = 6,        /* something after the end */
+    LEAP_OUTPUT_SHORT = 7,     /* output shorter than the list */
+    LEAP_BEFORE_1972 = 8,      /* MJD under 41317, or TAI under 10,000,000 */
+    LEAP_NO_INSTANT = 9,       /* no such instant */
+    LEAP_NOT_KNOWN = 10,       /* expired or not yet known */
+    LEAP_NOT_WELL_FORMED = 11  /* the schedule is not well formed */
+};
+
+enum {
+    LEAP_MAX_LEAPS = 256,
+    LEAP_TEXT_ROOM = 752,    /* bytes that hold any list as text */
+    LEAP_NYBBLES_ROOM = 390  /* bytes that hold any list as nybbles */
+};
+
+/* A leap second at the end of the day before a month starts. Month 0 is
+ * January 1972. `negative` is 0 for an inserted second and 1 for a deleted one;
+ * a schedule with another value, also in an unused place, is not well formed. */
+typedef struct {
+    uint32_t month, negative;
+} leap_second;
+
+/* A list of `count` leap seconds. From month `expiry` on nothing is known. It
+ * is well formed if the count is at most 256, the months strictly rise, each
+ * gap (from month 0 to the first leap, from leap to leap, from the last leap to
+ * the expiry) is 1 to 999, the expiry is at most 2400, and unused places hold
+ * zeros. Words of any value may be given: none is cut to fewer bits. */
+typedef struct {
+    leap_second leap[256];
+    uint32_t count, expiry;
+} leap_schedule;
+
+/* The layout: 514 words of 32 bits, with no padding. */
+typedef char leap_schedule_is_514_words[sizeof(leap_schedule) == 514 * 4 ? 1 : -1];
+typedef char leap_count_is_word_512[offsetof(leap_schedule, count) == 512 * 4 ? 1 : -1];
+typedef char leap_expiry_is_word_513[offsetof(leap_schedule, expiry) == 513 * 4 ? 1 : -1];
+typedef char leap_second_is_2_words[sizeof(leap_second) == 2 * 4 ? 1 : -1];
+typedef char leap_sign_is_word_1[offsetof(leap_second, negative) == 4 ? 1 : -1];
+
+/* Reads a text list, such as "6+12-5?", into *out. Refuses with 1, 2, 3, 4, 5
+ * or 6, and *place is then the byte it stopped at (the length, for 1). */
+uint8_t leap_read_text(const uint8_t *bytes, size_t length,
+                       leap_schedule *out, uint64_t *place);
+
+/* Reads a nybble list, upper half of each byte first, into *out. Refuses with
+ * 1, 3, 4, 5 or 6, and *place is then the nybble it stopped at (the first of
+ * the refused code; the nybble count, for 1). */
+uint8_t leap_read_nybbles(const uint8_t *bytes, size_t length,
+                          leap_schedule *out, uint64_t *place);
+
+/* Writes the schedule's text list, with no 0 at its end, to the start of the
+ * `room` bytes at out, and its length to *written; bytes beyond that stay.
+ * Refuses, in this order, with 11 (not well formed) or 7 (room too small). */
+uint8_t leap_write_text(const leap_schedule *s,
+                        uint8_t *out, size_t room, uint64_t *written);
+
+/* Writes the schedule's nybble list as leap_write_text writes its text list,
+ * with the same refusals. */
+uint8_t leap_write_nybbles(const leap_schedule *s,
+                           uint8_t *out, size_t room, uint64_t *written);
+
+/* The times. A day is a Modified Julian Day (MJD 41317 is 1 January 1972).
+ * UTC counts microseconds of a day of 86,399, 86,400 or 86,401 seconds; UTS
+ * counts nanoseconds of a day of always 86,400 seconds; TAI counts microseconds
+ * from 1972-01-01 00:00:00 TAI. Let Z be the last day before the expiry month:
+ * its DTAI is known, but not its length. */
+
+/* TAI minus UTC on a day, in seconds; it may be below zero. Refuses, in this
+ * order, with 11 (not well formed), 8 (before 1972) or 10 (after Z). */
+uint8_t leap_dtai(const leap_schedule *s, uint64_t mjd, int32_t *dtai);
+
+/* The TAI of a UTC instant. Refuses, in this order, with 11 (not well formed),
+ * 8 (before 1972), 9 (micros is 86,401,000,000 or more), 10 (after Z, or on Z
+ * from 86,399,000,000 on) or 9 (micros is the day's length or more). */
+uint8_t leap_utc_to_tai(const leap_schedule *s, uint64_t mjd, uint64_t micros,
+                        uint64_t *tai);
+
+/* The UTC instant with this TAI. Refuses, in this order, with 11 (not well
+ * formed), 8 (TAI under 10,000,000) or 10 (not below the TAI of Z at
+ * 86,399,000,000). */
+uint8_t leap_tai_to_utc(const leap_schedule *s, uint64_t tai,
+                        uint64_t *mjd, uint64_t *micros);
+
+/* The UTS of a UTC instant, on the same day. Refuses, in this order, with 11
+ * (not well formed), 8 (before 1972), 9 (micros is 86,401,000,000 or more), 10
+ * (after Z, or on Z from 85,399,000,000 on) or 9 (micros is the day's length or
+ * more). */
+uint8_t leap_utc_to_uts(const leap_schedule *s, uint64_t mjd, uint64_t micros,
+                        uint64_t *nanos);
+
+/* The greatest UTC microseconds of the day whose UTS is not above nanos.
+ * Refuses, in this order, with 11 (not well formed), 8 (before 1972), 9 (nanos
+ * is 86,400,000,000,000 or more) or 10 (after Z, or on Z from
+ * 85,399,000,000,000 on). */
+uint8_t leap_uts_to_utc(const leap_schedule *s, uint64_t mjd, uint64_t nanos,
+                        uint64_t *micros);
+
+#ifdef __cplusplus
+}
+#endif
+
+#endif

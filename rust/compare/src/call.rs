@@ -1,0 +1,213 @@
+//! A call of the interface, and what each of the two programs makes of it.
+
+use leap::ffi::{self, Words};
+use second::Raw;
+
+#[derive(Clone, Copy, Debug, PartialEq, Eq)]
+pub enum Format {
+    Text,
+    Nybbles,
+}
+
+#[derive(Clone, Copy, Debug, PartialEq, Eq)]
+pub enum Kind {
+    Dtai,
+    UtcToTai,
+    TaiToUtc,
+    UtcToUts,
+    UtsToUtc,
+}
+
+/// A question with its numbers: the day and the time of day, or the day and 0
+/// (DTAI), or the TAI and 0.
+#[derive(Clone, Copy, Debug, PartialEq, Eq)]
+pub struct Question {
+    pub kind: Kind,
+    pub first: u64,
+    pub second: u64,
+}
+
+#[derive(Clone, Debug, PartialEq, Eq)]
+pub enum Call {
+    Read(Format, Vec<u8>),
+    /// A schedule, and the room that it is to be written to.
+    Write(Format, Box<Words>, usize),
+    Ask(Box<Words>, Question),
+}
+
+/// All that a call returns or may change.
+#[derive(Clone, Debug, PartialEq, Eq)]
+pub struct Outcome {
+    pub number: u8,
+    /// The output numbers, in their order in the header.
+    pub values: Vec<i128>,
+    /// A reader's schedule.
+    pub words: Vec<u32>,
+    /// A writer's room, with `GUARD` bytes on either side of it.
+    pub bytes: Vec<u8>,
+}
+
+pub type Program = fn(&Call) -> Outcome;
+
+/// Bytes before and after a writer's room, which it must not touch.
+pub const GUARD: usize = 16;
+
+/// What the outputs hold before a call.
+pub const FILL: u64 = 0xa5a5_a5a5_a5a5_a5a5;
+pub const FILL_DTAI: i32 = 0x5a5a_5a5a;
+
+pub fn filled_words() -> Words {
+    std::array::from_fn(|i| i as u32 ^ 0xa5a5_a5a5)
+}
+
+pub fn filled_bytes(length: usize) -> Vec<u8> {
+    (0..length).map(|i| i as u8 ^ 0xa5).collect()
+}
+
+impl Call {
+    /// The function's name, without `leap_`.
+    pub fn name(&self) -> &'static str {
+        match self {
+            Call::Read(Format::Text, _) => "read_text",
+            Call::Read(Format::Nybbles, _) => "read_nybbles",
+            Call::Write(Format::Text, ..) => "write_text",
+            Call::Write(Format::Nybbles, ..) => "write_nybbles",
+            Call::Ask(_, question) => question.kind.name(),
+        }
+    }
+
+    pub fn differs(&self) -> bool {
+        archive(self) != second(self)
+    }
+}
+
+impl Kind {
+    pub const ALL: [Kind; 5] = [
+        Kind::Dtai,
+        Kind::UtcToTai,
+        Kind::TaiToUtc,
+        Kind::UtcToUts,
+        Kind::UtsToUtc,
+    ];
+
+    pub fn name(self) -> &'static str {
+        match self {
+            Kind::Dtai => "dtai",
+            Kind::UtcToTai => "utc_to_tai",
+            Kind::TaiToUtc => "tai_to_utc",
+            Kind::UtcToUts => "utc_to_uts",
+            Kind::UtsToUtc => "uts_to_utc",
+        }
+    }
+}
+
+/// The proved archive's outcome.
+pub fn archive(call: &Call) -> Outcome {
+    let mut value = FILL;
+    match call {
+        Call::Read(format, list) => {
+            let mut words = filled_words();
+            let number = match format {
+                Format::Text => ffi::read_text(list, &mut words, &mut value),
+                Format::Nybbles => ffi::read_nybbles(list, &mut words, &mut value),
+            };
+            reading(number, value, &words)
+        }
+        Call::Write(format, words, room) => {
+            let mut bytes = filled_bytes(room + 2 * GUARD);
+            let out = &mut bytes[GUARD..GUARD + room];
+            let number = match format {
+                Format::Text => ffi::write_text(words, out, &mut value),
+                Format::Nybbles => ffi::write_nybbles(words, out, &mut value),
+            };
+            writing(number, value, bytes)
+        }
+        Call::Ask(words, question) => {
+            let (a, b) = (question.first, question.second);
+            let number = match question.kind {
+                Kind::Dtai => {
+                    let mut dtai = FILL_DTAI;
+                    let number = ffi::dtai(words, a, &mut dtai);
+                    return answer(number, vec![dtai.into()]);
+                }
+                Kind::TaiToUtc => {
+                    let mut micros = FILL;
+                    let number = ffi::tai_to_utc(words, a, &mut value, &mut micros);
+                    return answer(number, vec![value.into(), micros.into()]);
+                }
+                Kind::UtcToTai => ffi::utc_to_tai(words, a, b, &mut value),
+                Kind::UtcToUts => ffi::utc_to_uts(words, a, b, &mut value),
+                Kind::UtsToUtc => ffi::uts_to_utc(words, a, b, &mut value),
+            };
+            answer(number, vec![value.into()])
+        }
+    }
+}
+
+/// The second program's outcome.
+pub fn second(call: &Call) -> Outcome {
+    match call {
+        Call::Read(format, list) => {
+            let r = match format {
+                Format::Text => second::read_text(list),
+                Format::Nybbles => second::read_nybbles(list),
+            };
+            reading(r.number, r.place, &r.schedule.to_words())
+        }
+        Call::Write(format, words, room) => {
+            let mut bytes = filled_bytes(room + 2 * GUARD);
+            let out = &mut bytes[GUARD..GUARD + room];
+            let raw = Raw::from_words(words);
+            let (number, written) = match format {
+                Format::Text => second::write_text(&raw, out),
+                Format::Nybbles => second::write_nybbles(&raw, out),
+            };
+            writing(number, written, bytes)
+        }
+        Call::Ask(words, question) => {
+            let raw = Raw::from_words(words);
+            let (a, b) = (question.first, question.second);
+            let (number, value) = match question.kind {
+                Kind::Dtai => {
+                    let (number, dtai) = second::dtai(&raw, a);
+                    return answer(number, vec![dtai.into()]);
+                }
+                Kind::TaiToUtc => {
+                    let (number, mjd, micros) = second::tai_to_utc(&raw, a);
+                    return answer(number, vec![mjd.into(), micros.into()]);
+                }
+                Kind::UtcToTai => second::utc_to_tai(&raw, a, b),
+                Kind::UtcToUts => second::utc_to_uts(&raw, a, b),
+                Kind::UtsToUtc => second::uts_to_utc(&raw, a, b),
+            };
+            answer(number, vec![value.into()])
+        }
+    }
+}
+
+fn reading(number: u8, place: u64, words: &Words) -> Outcome {
+    Outcome {
+        number,
+        values: vec![place.into()],
+        words: words.to_vec(),
+        bytes: Vec::new(),
+    }
+}
+
+fn writing(number: u8, written: u64, bytes: Vec<u8>) -> Outcome {
+    Outcome {
+        number,
+        values: vec![written.into()],
+        words: Vec::new(),
+        bytes,
+    }
+}
+
+fn answer(number: u8, values: Vec<i128>) -> Outcome {
+    Outcome {
+        number,
+        values,
+        words: Vec::new(),
+        bytes: Vec::new(),
+    }
+}

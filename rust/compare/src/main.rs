@@ -1,0 +1,222 @@
+//! `compare [CALLS [SEED]]` makes the same calls of the proved archive and of the
+//! second program, and compares all that they return and every byte and word
+//! that they may change. Where they differ it prints the smallest case that it
+//! finds, as a test to paste, and ends with status 1.
+//!
+//! The calls follow from the seed alone. With COMPARE_TRACE set, each is shown
+//! before it is made: the last one shown is the one that stopped the program.
+
+mod call;
+mod lists;
+mod pairs;
+mod paste;
+mod random;
+mod schedules;
+mod shrink;
+mod smaller;
+mod tally;
+mod times;
+
+use std::process::ExitCode;
+
+use call::{archive, second, Call, Format, Program};
+use pairs::Pair;
+use random::Random;
+use shrink::shrink;
+use tally::Tally;
+
+const CALLS: u64 = 250_000;
+const SEED: u64 = 1972;
+
+/// Lists or schedules of one kind, and their share of the calls.
+struct Source {
+    name: &'static str,
+    share: u64,
+    make: Make,
+}
+
+type MakeWords = fn(&mut Random) -> Box<leap::ffi::Words>;
+type MakePair = fn(&mut Random) -> (Box<leap::ffi::Words>, Box<leap::ffi::Words>);
+
+#[derive(Clone, Copy)]
+enum Make {
+    List(Format, fn(&mut Random) -> Vec<u8>),
+    /// Written, and asked all questions.
+    Words(MakeWords),
+    /// The first extends the second.
+    Extension(MakePair),
+    Contradiction(MakePair),
+}
+
+use Make::{Contradiction, Extension, List, Words};
+
+#[rustfmt::skip]
+const SOURCES: [Source; 23] = [
+    Source { name: "text, valid", share: 3, make: List(Format::Text, lists::text::valid) },
+    Source { name: "text, damaged", share: 6, make: List(Format::Text, lists::text::broken) },
+    Source { name: "text, near a limit", share: 3, make: List(Format::Text, lists::text::limit) },
+    Source { name: "text, random bytes", share: 6, make: List(Format::Text, lists::text::random) },
+    Source { name: "nybbles, valid", share: 3, make: List(Format::Nybbles, lists::nybbles::valid) },
+    Source { name: "nybbles, preferred", share: 1, make: List(Format::Nybbles, lists::nybbles::preferred) },
+    Source { name: "nybbles, damaged", share: 6, make: List(Format::Nybbles, lists::nybbles::broken) },
+    Source { name: "nybbles, near a limit", share: 3, make: List(Format::Nybbles, lists::nybbles::limit) },
+    Source { name: "nybbles, random bytes", share: 6, make: List(Format::Nybbles, lists::nybbles::random) },
+    Source { name: "schedules, ordinary", share: 8, make: Words(schedules::ordinary) },
+    Source { name: "schedules, dense", share: 8, make: Words(schedules::dense) },
+    Source { name: "schedules, negative", share: 8, make: Words(schedules::negative) },
+    Source { name: "schedules, sparse", share: 8, make: Words(schedules::sparse) },
+    Source { name: "schedules, of 01", share: 6, make: Words(schedules::known) },
+    Source { name: "malformed, count", share: 3, make: Words(schedules::bad_count) },
+    Source { name: "malformed, sign", share: 3, make: Words(schedules::bad_sign) },
+    Source { name: "malformed, month", share: 3, make: Words(schedules::bad_month) },
+    Source { name: "malformed, unused place", share: 2, make: Words(schedules::bad_unused) },
+    Source { name: "malformed, gap", share: 4, make: Words(schedules::bad_gap) },
+    Source { name: "malformed, expiry", share: 3, make: Words(schedules::bad_expiry) },
+    Source { name: "pairs, extended", share: 8, make: Extension(pairs::extended) },
+    Source { name: "pairs, cut short", share: 6, make: Extension(pairs::cut_short) },
+    Source { name: "pairs, contradicting", share: 4, make: Contradiction(pairs::contradicting) },
+];
+
+/// Both programs, by name.
+const PROGRAMS: [(&str, Program); 2] = [("the archive", archive), ("the second program", second)];
+
+/// Compares the outcomes of a call, and counts it.
+fn compare(call: &Call, tally: &mut Tally) -> Result<(), String> {
+    if std::env::var_os("COMPARE_TRACE").is_some() {
+        eprint!("{}", paste::made(call));
+    }
+    let expected = second(call);
+    if archive(call) != expected {
+        let smallest = shrink(call.clone(), Call::differs);
+        return Err(format!(
+            "the programs differ:\n\n{}",
+            paste::call(&smallest)
+        ));
+    }
+    tally.add(call.name(), expected.number);
+    Ok(())
+}
+
+/// Writes a schedule into rooms about its length, and asks it questions.
+fn use_words(
+    words: &leap::ffi::Words,
+    random: &mut Random,
+    tally: &mut Tally,
+) -> Result<(), String> {
+    for format in [Format::Text, Format::Nybbles] {
+        let list = second(&Call::Write(format, Box::new(*words), 1_028));
+        let length = list.values[0] as usize;
+        let near = [length, length, length.saturating_sub(1), length + 1, 1_028];
+        let room = match random.below(6) {
+            0 => random.below(length + 1),
+            _ => random.pick(&near),
+        };
+        compare(&Call::Write(format, Box::new(*words), room), tally)?;
+    }
+    for _ in 0..10 {
+        let question = times::question(random, words);
+        compare(&Call::Ask(Box::new(*words), question), tally)?;
+    }
+    Ok(())
+}
+
+/// Asks the longer and the shorter list the same, and holds demand 3 to it.
+fn use_extension(make: MakePair, random: &mut Random, tally: &mut Tally) -> Result<(), String> {
+    let (longer, shorter) = make(random);
+    for _ in 0..10 {
+        let edge_of = if random.one_in(3) { &longer } else { &shorter };
+        let pair = Pair {
+            question: times::question(random, edge_of),
+            longer: longer.clone(),
+            shorter: shorter.clone(),
+        };
+        for call in pair.calls() {
+            compare(&call, tally)?;
+        }
+        for (name, program) in PROGRAMS {
+            if pair.broken(program) {
+                let smallest = shrink(pair, |p| p.broken(program));
+                let test = paste::not_kept(&smallest, program);
+                return Err(format!("{name} does not keep an answer:\n\n{test}"));
+            }
+        }
+    }
+    Ok(())
+}
+
+/// Asks two contradicting lists for the DTAI by which they part.
+fn use_contradiction(make: MakePair, random: &mut Random, tally: &mut Tally) -> Result<(), String> {
+    let (one, other) = make(random);
+    for call in Pair::of(&one, &other).parting_calls().iter().flatten() {
+        compare(call, tally)?;
+    }
+    for (name, program) in PROGRAMS {
+        let pair = Pair::of(&one, &other);
+        if pair.not_parted(program) {
+            let smallest = shrink(pair, |p| p.not_parted(program));
+            let test = paste::not_parted(&smallest, program);
+            return Err(format!("{name} does not tell two lists apart:\n\n{test}"));
+        }
+    }
+    Ok(())
+}
+
+fn use_source(make: Make, random: &mut Random, tally: &mut Tally) -> Result<(), String> {
+    match make {
+        List(format, make) => compare(&Call::Read(format, make(random)), tally),
+        Words(make) => use_words(&make(random), random, tally),
+        Extension(make) => use_extension(make, random, tally),
+        Contradiction(make) => use_contradiction(make, random, tally),
+    }
+}
+
+/// Goes through the sources, each by its share, until there are enough calls.
+fn run(calls: u64, seed: u64) -> Result<Tally, String> {
+    let mut random = Random::new(seed);
+    let mut tally = Tally::new(SOURCES.iter().map(|s| s.name));
+    while tally.total() < calls {
+        for (at, source) in SOURCES.iter().enumerate() {
+            tally.turn(at);
+            let due = tally.calls() + source.share * 12;
+            while tally.calls() < due {
+                use_source(source.make, &mut random, &mut tally).map_err(|why| {
+                    format!("{}, after {} calls: {why}", source.name, tally.total())
+                })?;
+            }
+        }
+    }
+    Ok(tally)
+}
+
+fn arguments() -> Option<(u64, u64)> {
+    let numbers: Option<Vec<u64>> = std::env::args().skip(1).map(|a| a.parse().ok()).collect();
+    match numbers?[..] {
+        [] => Some((CALLS, SEED)),
+        [calls] => Some((calls, SEED)),
+        [calls, seed] => Some((calls, seed)),
+        _ => None,
+    }
+}
+
+fn main() -> ExitCode {
+    let Some((calls, seed)) = arguments() else {
+        eprintln!("usage: compare [CALLS [SEED]]");
+        return ExitCode::from(2);
+    };
+    match run(calls, seed) {
+        Ok(tally) => {
+            print!("{tally}");
+            let missing = tally.missing();
+            if !missing.is_empty() {
+                println!("too few calls: no {}", missing.join(", no "));
+                return ExitCode::FAILURE;
+            }
+            println!("compared {} calls: all equal", tally.total());
+            ExitCode::SUCCESS
+        }
+        Err(why) => {
+            println!("seed {seed}: {why}");
+            ExitCode::FAILURE
+        }
+    }
+}

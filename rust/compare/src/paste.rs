@@ -1,0 +1,194 @@
+//! A failing case as a test in Rust, to be pasted into `rust/leap/tests`.
+
+use std::fmt::Display;
+
+use crate::call::{archive, second, Call, Kind, Outcome, Program, FILL, FILL_DTAI, GUARD};
+use crate::pairs::Pair;
+
+/// A test of that name with these lines in it.
+fn test(name: &str, lines: Vec<String>) -> String {
+    let body: String = lines.iter().map(|line| format!("    {line}\n")).collect();
+    format!("#[test]\nfn {name}() {{\n{body}}}\n")
+}
+
+/// An array of 514 words, by those that are not 0.
+fn words_lines(name: &str, words: &[u32]) -> Vec<String> {
+    let set: Vec<String> = (words.iter().enumerate())
+        .filter(|(_, &word)| word != 0)
+        .map(|(at, word)| format!("{name}[{at}] = {word};"))
+        .collect();
+    let mutable = if set.is_empty() { "" } else { "mut " };
+    let mut lines = vec![format!("let {mutable}{name} = [0; 514];")];
+    lines.extend(set.chunks(5).map(|some| some.join(" ")));
+    lines
+}
+
+/// A byte string, or the bytes in hex where it would be hard to read.
+fn bytes(list: &[u8]) -> String {
+    if list.iter().all(|b| b.is_ascii_graphic() || *b == b'\n') {
+        format!("b\"{}\"", list.escape_ascii())
+    } else {
+        let hex: Vec<String> = list.iter().map(|b| format!("0x{b:02x}")).collect();
+        format!("&[{}]", hex.join(", "))
+    }
+}
+
+fn tuple(outcome: &Outcome) -> String {
+    let values: Vec<String> = outcome.values.iter().map(i128::to_string).collect();
+    format!("({}, {})", outcome.number, values.join(", "))
+}
+
+/// The places where two lots of output differ, for a comment.
+fn differences<T: PartialEq + Display>(got: &[T], expected: &[T]) -> String {
+    let all: Vec<String> = (got.iter().zip(expected).enumerate())
+        .filter(|(_, (g, e))| g != e)
+        .map(|(at, (g, _))| format!("[{at}] = {g}"))
+        .collect();
+    match all.len() {
+        0 => "the same".to_string(),
+        n if n > 8 => format!("{}, .. ({n} in all)", all[..8].join(", ")),
+        _ => all.join(", "),
+    }
+}
+
+/// The lines that make a call and put what it returns into `got`.
+fn call_lines(call: &Call, got: &str) -> Vec<String> {
+    let name = call.name();
+    let (lets, arguments, values) = match call {
+        Call::Read(_, list) => (
+            vec![
+                "let mut out: [u32; 514] = std::array::from_fn(|i| i as u32 ^ 0xa5a5_a5a5);".into(),
+                format!("let mut place = {FILL:#x};"),
+            ],
+            format!("{}, &mut out, &mut place", bytes(list)),
+            "place",
+        ),
+        Call::Write(_, words, room) => {
+            let (length, end) = (room + 2 * GUARD, room + GUARD);
+            let mut lets = words_lines("words", &words[..]);
+            lets.push(format!(
+                "let mut out: [u8; {length}] = std::array::from_fn(|i| i as u8 ^ 0xa5);"
+            ));
+            lets.push(format!("let mut written = {FILL:#x};"));
+            (
+                lets,
+                format!("&words, &mut out[{GUARD}..{end}], &mut written"),
+                "written",
+            )
+        }
+        Call::Ask(words, question) => {
+            let (first, second) = (question.first, question.second);
+            let (fill, arguments, values) = match question.kind {
+                Kind::Dtai => (
+                    format!("let mut dtai = {FILL_DTAI:#x};"),
+                    format!("{first}, &mut dtai"),
+                    "dtai",
+                ),
+                Kind::TaiToUtc => (
+                    format!("let (mut mjd, mut micros) = ({FILL:#x}, {FILL:#x});"),
+                    format!("{first}, &mut mjd, &mut micros"),
+                    "mjd, micros",
+                ),
+                _ => (
+                    format!("let mut value = {FILL:#x};"),
+                    format!("{first}, {second}, &mut value"),
+                    "value",
+                ),
+            };
+            let mut lets = words_lines("words", &words[..]);
+            lets.push(fill);
+            (lets, format!("&words, {arguments}"), values)
+        }
+    };
+    let mut lines = lets;
+    lines.push(format!("let number = leap::ffi::{name}({arguments});"));
+    lines.push(format!("let {got} = (number, {values});"));
+    lines
+}
+
+/// A writer's room with the list in it and all else as it was.
+fn room_lines(outcome: &Outcome) -> Vec<String> {
+    let length = outcome.bytes.len();
+    let written = outcome.values[0] as usize;
+    let fill = format!("expected: [u8; {length}] = std::array::from_fn(|i| i as u8 ^ 0xa5);");
+    if written == 0 {
+        return vec![format!("let {fill}")];
+    }
+    let end = GUARD + written;
+    let list = bytes(&outcome.bytes[GUARD..end]);
+    vec![
+        format!("let mut {fill}"),
+        format!("expected[{GUARD}..{end}].copy_from_slice({list});"),
+    ]
+}
+
+/// A call on which the programs differ; the second program's outcome is taken
+/// as the one expected.
+pub fn call(call: &Call) -> String {
+    let (got, expected) = (archive(call), second(call));
+    let mut lines = call_lines(call, "got");
+    lines.push(format!(
+        "assert_eq!(got, {}); // the archive gave {}",
+        tuple(&expected),
+        tuple(&got)
+    ));
+    let (expected, differ) = match call {
+        Call::Ask(..) => (Vec::new(), String::new()),
+        Call::Read(..) => (
+            words_lines("expected", &expected.words),
+            differences(&got.words, &expected.words),
+        ),
+        Call::Write(..) => (
+            room_lines(&expected),
+            differences(&got.bytes, &expected.bytes),
+        ),
+    };
+    if !expected.is_empty() {
+        lines.extend(expected);
+        lines.push(format!(
+            "assert_eq!(out, expected); // the archive gave {differ}"
+        ));
+    }
+    test(&format!("{}_as_the_second_program", call.name()), lines)
+}
+
+/// A call, to be looked at before it is made.
+pub fn made(call: &Call) -> String {
+    test(call.name(), call_lines(call, "_got"))
+}
+
+/// Two calls that one program answers against demand 3.
+fn two_calls(name: &str, calls: &[Call; 2], program: Program, claim: [&str; 2]) -> String {
+    let mut lines = Vec::new();
+    for (call, got) in calls.iter().zip(["first", "other"]) {
+        lines.extend(call_lines(call, got));
+        lines.push(format!("// {}", tuple(&program(call))));
+    }
+    lines.extend(claim.map(String::from));
+    test(name, lines)
+}
+
+/// An answer that is not kept under a longer list.
+pub fn not_kept(pair: &Pair, program: Program) -> String {
+    let claim = [
+        "// The first list extends the other: answers, 8 and 9 stay, and 10 becomes 0, 9 or 10.",
+        "assert!(first == other || (other.0 == 10 && [0, 9, 10].contains(&first.0)));",
+    ];
+    two_calls("extension_keeps_answers", &pair.calls(), program, claim)
+}
+
+/// Two lists, of which neither extends the other, without a DTAI to tell them
+/// apart.
+pub fn not_parted(pair: &Pair, program: Program) -> String {
+    let Some(calls) = pair.parting_calls() else {
+        let mut lines = words_lines("one", &pair.longer[..]);
+        lines.extend(words_lines("other", &pair.shorter[..]));
+        lines.push("// Neither extends the other, and no month parts them.".into());
+        return test("contradictions_show", lines);
+    };
+    let claim = [
+        "// Neither list extends the other.",
+        "assert!((first.0, other.0) == (0, 0) && first.1 != other.1);",
+    ];
+    two_calls("contradictions_show", &calls, program, claim)
+}

@@ -1,0 +1,75 @@
+//! The calls of `leap.h` as they are, with nothing added: each returns 0 or the
+//! number of a refusal and sets every output. All unsafe code is here.
+//!
+//! A Rust reference is never null, is aligned, and a `&mut` overlaps no other
+//! reference, which is all that the header asks of its callers.
+
+/// A schedule as `leap.h` lays it out: month and sign word of each of the 256
+/// places, the count, the expiry.
+pub type Words = [u32; 514];
+
+extern "C" {
+    fn leap_read_text(bytes: *const u8, length: usize, out: *mut Words, place: *mut u64) -> u8;
+    fn leap_read_nybbles(bytes: *const u8, length: usize, out: *mut Words, place: *mut u64) -> u8;
+    fn leap_write_text(s: *const Words, out: *mut u8, room: usize, written: *mut u64) -> u8;
+    fn leap_write_nybbles(s: *const Words, out: *mut u8, room: usize, written: *mut u64) -> u8;
+    fn leap_dtai(s: *const Words, mjd: u64, dtai: *mut i32) -> u8;
+    fn leap_utc_to_tai(s: *const Words, mjd: u64, micros: u64, tai: *mut u64) -> u8;
+    fn leap_tai_to_utc(s: *const Words, tai: u64, mjd: *mut u64, micros: *mut u64) -> u8;
+    fn leap_utc_to_uts(s: *const Words, mjd: u64, micros: u64, nanos: *mut u64) -> u8;
+    fn leap_uts_to_utc(s: *const Words, mjd: u64, nanos: u64, micros: *mut u64) -> u8;
+}
+
+/// Reads a text list. `place` is the byte of a refusal.
+pub fn read_text(bytes: &[u8], out: &mut Words, place: &mut u64) -> u8 {
+    // SAFETY: see above; the length is the slice's own.
+    unsafe { leap_read_text(bytes.as_ptr(), bytes.len(), out, place) }
+}
+
+/// Reads a nybble list. `place` is the nybble of a refusal.
+pub fn read_nybbles(bytes: &[u8], out: &mut Words, place: &mut u64) -> u8 {
+    // SAFETY: see above; the length is the slice's own.
+    unsafe { leap_read_nybbles(bytes.as_ptr(), bytes.len(), out, place) }
+}
+
+/// Writes a text list to the start of `out`; `written` is its length.
+pub fn write_text(s: &Words, out: &mut [u8], written: &mut u64) -> u8 {
+    // SAFETY: see above; the room is the slice's own length.
+    unsafe { leap_write_text(s, out.as_mut_ptr(), out.len(), written) }
+}
+
+/// Writes a nybble list to the start of `out`; `written` is its length.
+pub fn write_nybbles(s: &Words, out: &mut [u8], written: &mut u64) -> u8 {
+    // SAFETY: see above; the room is the slice's own length.
+    unsafe { leap_write_nybbles(s, out.as_mut_ptr(), out.len(), written) }
+}
+
+/// TAI minus UTC on a day, in seconds.
+pub fn dtai(s: &Words, mjd: u64, dtai: &mut i32) -> u8 {
+    // SAFETY: see above.
+    unsafe { leap_dtai(s, mjd, dtai) }
+}
+
+/// The TAI of a UTC instant.
+pub fn utc_to_tai(s: &Words, mjd: u64, micros: u64, tai: &mut u64) -> u8 {
+    // SAFETY: see above.
+    unsafe { leap_utc_to_tai(s, mjd, micros, tai) }
+}
+
+/// The UTC instant with a TAI.
+pub fn tai_to_utc(s: &Words, tai: u64, mjd: &mut u64, micros: &mut u64) -> u8 {
+    // SAFETY: see above.
+    unsafe { leap_tai_to_utc(s, tai, mjd, micros) }
+}
+
+/// The UTS of a UTC instant.
+pub fn utc_to_uts(s: &Words, mjd: u64, micros: u64, nanos: &mut u64) -> u8 {
+    // SAFETY: see above.
+    unsafe { leap_utc_to_uts(s, mjd, micros, nanos) }
+}
+
+/// The greatest UTC of a day whose UTS is not above the one given.
+pub fn uts_to_utc(s: &Words, mjd: u64, nanos: u64, micros: &mut u64) -> u8 {
+    // SAFETY: see above.
+    unsafe { leap_uts_to_utc(s, mjd, nanos, micros) }
+}

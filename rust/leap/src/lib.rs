@@ -1,0 +1,67 @@
+//! Leap second lists, TAI, UTC and smoothed time (UTS), answered by the proved
+//! archive `libleap.a`. This crate adds types and no rule of its own.
+//!
+//! A [`Schedule`] is read from a list, or made from parts, and then asked:
+//!
+//! ```
+//! use leap::{Mjd, Schedule, UtcMicros, UtsNanos};
+//!
+//! let schedule = Schedule::from_text(b"6+5?")?;
+//! // The last second of 30 June 1972, which was inserted.
+//! let (day, inserted) = (Mjd(41_498), UtcMicros(86_400_000_000));
+//! assert_eq!(schedule.dtai(day), Ok(10));
+//! assert_eq!(schedule.utc_to_uts(day, inserted), Ok(UtsNanos(86_399_001_000_000)));
+//! assert_eq!(schedule.dtai(Mjd(41_499)), Ok(11));
+//! # Ok::<(), leap::ReadError>(())
+//! ```
+//!
+//! What has no answer is refused, with one of the eleven numbers of [`Refusal`]:
+//!
+//! ```
+//! use leap::{Mjd, ReadError, Refusal, Schedule};
+//!
+//! let error = Schedule::from_text(b"1000?").unwrap_err();
+//! assert_eq!(error, ReadError { refusal: Refusal::BadGap, place: 3 });
+//! assert_eq!(error.to_string(), "a gap malformed or over 999 months (at place 3)");
+//!
+//! let schedule = Schedule::from_text(b"6+5?")?;
+//! assert_eq!(schedule.dtai(Mjd(41_316)), Err(Refusal::Before1972));
+//! // Month 11, December 1972, is the first that the list does not know.
+//! assert_eq!(schedule.dtai(Mjd(41_652)), Err(Refusal::NotKnown));
+//! # Ok::<(), ReadError>(())
+//! ```
+//!
+//! A schedule made from parts is checked by whatever it is asked:
+//!
+//! ```
+//! use leap::{Leap, Mjd, Refusal, Schedule, Sign};
+//!
+//! let leaps = [Leap { month: 6, sign: Sign::Positive }];
+//! let schedule = Schedule::new(&leaps, 11);
+//! assert_eq!(schedule.to_text(), Ok("6+5?".to_string()));
+//! assert_eq!(schedule.to_nybbles(), Ok(vec![0x90, 0xf4]));
+//!
+//! let falling = Schedule::new(&leaps, 5);
+//! assert_eq!(falling.to_text(), Err(Refusal::NotWellFormed));
+//! assert_eq!(falling.dtai(Mjd(41_317)), Err(Refusal::NotWellFormed));
+//! ```
+//!
+//! The counts of the three time scales are types of their own, so that none is
+//! put in another's place:
+//!
+//! ```compile_fail,E0308
+//! use leap::{Mjd, Schedule, TaiMicros};
+//!
+//! let schedule = Schedule::from_text(b"6+5?").unwrap();
+//! schedule.utc_to_uts(Mjd(41_498), TaiMicros(0));
+//! ```
+
+#![deny(unsafe_op_in_unsafe_fn)]
+#![deny(missing_docs)]
+
+pub mod ffi;
+mod refusal;
+mod schedule;
+
+pub use refusal::{ReadError, Refusal};
+pub use schedule::{Leap, Mjd, Schedule, Sign, TaiMicros, UtcMicros, UtsNanos};

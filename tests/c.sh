@@ -1,0 +1,50 @@
+#!/usr/bin/env bash
+# The header and the archive from C: the header alone, its example, what the
+# archive holds, every call on good and bad input, and the stack that each uses.
+source "$(dirname "${BASH_SOURCE[0]}")/common.bash"
+
+alone() {
+    local compiler=$1 language=$2 standard=$3
+    quietly "leap.h alone as $standard" \
+        "$compiler" "-std=$standard" "${strict[@]}" -x "$language" -fsyntax-only "$root/include/leap.h"
+    ok "header: alone as $standard"
+}
+alone gcc c c99
+alone gcc c c17
+alone g++ c++ c++98
+alone g++ c++ c++17
+
+# The example stands in the header's first comment, indented by five.
+{
+    printf '#include <assert.h>\n#include <stdio.h>\n#include "leap.h"\nint main(void)\n{\n'
+    sed -n '/^#/q; s/^ \*     //p' "$root/include/leap.h"
+    printf 'return no;\n}\n'
+} >"$built/example.c"
+grep -q leap_read_text "$built/example.c" || fail "the header has no example"
+quietly "the header's example does not compile" gcc -std=c99 "${strict[@]}" \
+    "$built/example.c" "$LEAP_LIB_DIR/libleap.a" -o "$built/example"
+quietly "the header's example" "$built/example"
+ok "header: its example"
+
+declared=$(sed -n 's/^uint8_t \(leap_[a-z_]*\)(.*/\1/p' "$root/include/leap.h" | sort)
+defined=$(nm -g --defined-only "$LEAP_LIB_DIR/libleap.a" | awk 'NF == 3 { print $3 }' | sort)
+[ -n "$declared" ] && [ "$declared" = "$defined" ] \
+    || fail "the header declares ${declared//$'\n'/ }, the archive defines ${defined//$'\n'/ }"
+ok "archive: the header's functions and no others"
+
+size "$LEAP_LIB_DIR/libleap.a" | awk 'NR > 1 { sum += $2 + $3; n++ } END { exit !n || sum }' \
+    || fail "the archive has data that can change"
+ok "archive: no data that can change, so no state"
+
+for test in lists times malformed; do
+    compiled "$test" -g -fsanitize=address,undefined
+    quietly "$test" "$built/$test"
+    count_oks "$test"
+done
+
+# Bound at once, since the binding of a library call would use stack of its own.
+compiled stack -O2 -pthread -Wl,-z,now
+quietly "stack" "$built/stack"
+count_oks stack
+
+finish

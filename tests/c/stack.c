@@ -1,0 +1,248 @@
+/* How much stack each call of leap.h uses on its worst inputs.
+ *
+ * Each case runs in a thread whose stack was painted; what is no longer painted
+ * was used, less what a thread that calls nothing uses. No case may use more
+ * than 64 KiB. Then each runs once more, in a child process, in a thread with
+ * PTHREAD_STACK_MIN and 64 KiB of stack. */
+#define _DEFAULT_SOURCE
+#include <pthread.h>
+#include <stdio.h>
+#include <stdlib.h>
+#include <string.h>
+#include <sys/mman.h>
+#include <sys/wait.h>
+#include <unistd.h>
+
+#include "leap.h"
+
+enum { LIMIT = 65536, PAINTED = 4 << 20, PAINT = 0xc5, INPUT = 1 << 20 };
+
+/* What a case works on; none of it on the stack. */
+static uint8_t input[INPUT], output[4096];
+static size_t length;
+static leap_schedule schedule, read_back;
+static uint64_t first, second, one, two;
+static int32_t dtai;
+static uint8_t number;
+
+static void nothing(void) {}
+static void read_text(void) { number = leap_read_text(input, length, &read_back, &one); }
+static void read_nybbles(void) { number = leap_read_nybbles(input, length, &read_back, &one); }
+static void write_text(void) { number = leap_write_text(&schedule, output, sizeof output, &one); }
+static void write_nybbles(void)
+{
+    number = leap_write_nybbles(&schedule, output, sizeof output, &one);
+}
+static void ask_dtai(void) { number = leap_dtai(&schedule, first, &dtai); }
+static void utc_to_tai(void) { number = leap_utc_to_tai(&schedule, first, second, &one); }
+static void tai_to_utc(void) { number = leap_tai_to_utc(&schedule, first, &one, &two); }
+static void utc_to_uts(void) { number = leap_utc_to_uts(&schedule, first, second, &one); }
+static void uts_to_utc(void) { number = leap_uts_to_utc(&schedule, first, second, &one); }
+
+/* The input is `count` times the unit, then the tail. */
+static void repeat(const char *unit, size_t unit_length, size_t count, const char *tail,
+                   size_t tail_length)
+{
+    length = 0;
+    while (count-- > 0) {
+        memcpy(input + length, unit, unit_length);
+        length += unit_length;
+    }
+    memcpy(input + length, tail, tail_length);
+    length += tail_length;
+}
+
+#define REPEAT(unit, count, tail) repeat(unit, sizeof unit - 1, count, tail, sizeof tail - 1)
+
+static void text_256(void) { REPEAT("1+", 256, "1?"); }
+/* 238 gaps of 10 and 19 of 1: the longest list, of 2399 months. */
+static void text_longest(void)
+{
+    REPEAT("10-", 238, "1+1+1+1+1+1+1+1+1+1+1+1+1+1+1+1+1+1+1?");
+}
+static void text_257(void) { REPEAT("1+", 257, "1?"); }
+static void text_megabyte(void) { REPEAT("1+", INPUT / 2, ""); }
+static void text_digits(void) { REPEAT("1", INPUT, ""); }
+static void text_after(void) { REPEAT("5?", INPUT / 2, ""); }
+
+static void nybbles_256(void) { REPEAT("\xd0", 256, "\xf0"); }
+static void nybbles_00(void) { REPEAT("\x00", INPUT, ""); }
+static void nybbles_88(void) { REPEAT("\x88", INPUT, ""); }
+static void nybbles_ff(void) { REPEAT("\xff", INPUT, ""); }
+static void nybbles_c0(void) { REPEAT("\xc0", INPUT, ""); }
+/* 2400 codes of one month: 998 that go on and a leap, twice, and 402 more. */
+static void nybbles_2400(void)
+{
+    memset(input, 0xc0, 2400);
+    input[998] = input[1997] = 0xd0;
+    input[2399] = 0xf0;
+    length = 2400;
+}
+
+/* 256 leaps, the last negative; gaps of `wide` months as long as they fit. */
+static void dense(uint32_t wide)
+{
+    uint32_t i, month = 0;
+    memset(&schedule, 0, sizeof schedule);
+    for (i = 0; i < 256; i++) {
+        uint32_t left = 256 - i;
+        schedule.leap[i].month = month += month + wide + left <= 2400 ? wide : 1;
+        schedule.leap[i].negative = i == 255;
+    }
+    schedule.count = 256;
+    schedule.expiry = month + 1;
+}
+
+static void dense_1(void) { dense(1); }
+static void dense_10(void) { dense(10); }
+static void dense_17(void) { dense(17); }
+static void longest_gap(void)
+{
+    memset(&schedule, 0, sizeof schedule);
+    schedule.expiry = 999;
+}
+static void malformed(void) { dense(9), schedule.leap[255].negative = 2; }
+
+/* 256 leaps, 9 months apart. The last, a negative one, is at month 2304, January
+ * 2164. The 192 years before that have 47 leap days (2100 has none), 70,127 days
+ * in all, so it is MJD 111444. DTAI is 265 up to there, and 264 from then on. */
+static void ask(uint64_t a, uint64_t b) { dense(9), first = a, second = b; }
+static void ask_day(void) { ask(111443, 0); }
+static void ask_micros(void) { ask(111443, UINT64_C(86398000000)); }
+static void ask_nanos(void) { ask(111443, UINT64_C(86399999999999)); }
+static void ask_tai(void) { ask(UINT64_C(86400000000) * (111444 - 41317) + 264000000, 0); }
+static void ask_first(void) { ask(41317, 0); }
+static void ask_far(void) { ask(UINT64_MAX, 0); }
+
+static const struct {
+    const char *name;
+    void (*prepare)(void), (*call)(void);
+    uint8_t number;
+} cases[] = {
+    {"read_text, 256 leaps", text_256, read_text, 0},
+    {"read_text, the longest list", text_longest, read_text, 0},
+    {"read_text, 257 leaps", text_257, read_text, 5},
+    {"read_text, 1 MiB of 1+", text_megabyte, read_text, 5},
+    {"read_text, 1 MiB of 1", text_digits, read_text, 3},
+    {"read_text, 1 MiB of 5?", text_after, read_text, 6},
+    {"read_nybbles, 256 leaps", nybbles_256, read_nybbles, 0},
+    {"read_nybbles, 2400 codes", nybbles_2400, read_nybbles, 0},
+    {"read_nybbles, 1 MiB of 00", nybbles_00, read_nybbles, 5},
+    {"read_nybbles, 1 MiB of 88", nybbles_88, read_nybbles, 3},
+    {"read_nybbles, 1 MiB of FF", nybbles_ff, read_nybbles, 6},
+    {"read_nybbles, 1 MiB of C0", nybbles_c0, read_nybbles, 3},
+    {"write_text, 256 leaps", dense_1, write_text, 0},
+    {"write_text, the longest list", dense_10, write_text, 0},
+    {"write_text, malformed", malformed, write_text, 11},
+    {"write_nybbles, 256 leaps", dense_1, write_nybbles, 0},
+    {"write_nybbles, the longest list", dense_17, write_nybbles, 0},
+    {"write_nybbles, a gap of 999", longest_gap, write_nybbles, 0},
+    {"write_nybbles, malformed", malformed, write_nybbles, 11},
+    {"dtai, 256 leaps", ask_day, ask_dtai, 0},
+    {"dtai, malformed", malformed, ask_dtai, 11},
+    {"utc_to_tai, 256 leaps", ask_micros, utc_to_tai, 0},
+    {"utc_to_tai, a far day", ask_far, utc_to_tai, 10},
+    {"tai_to_utc, 256 leaps", ask_tai, tai_to_utc, 0},
+    {"tai_to_utc, a far TAI", ask_far, tai_to_utc, 10},
+    {"utc_to_uts, 256 leaps", ask_micros, utc_to_uts, 0},
+    {"utc_to_uts, the first day", ask_first, utc_to_uts, 0},
+    {"uts_to_utc, 256 leaps", ask_nanos, uts_to_utc, 0},
+    {"uts_to_utc, the first day", ask_first, uts_to_utc, 0},
+};
+
+static void must(int error, const char *what)
+{
+    if (error != 0) {
+        printf("FAILED stack: %s: %s\n", what, strerror(error));
+        exit(2);
+    }
+}
+
+static void *body(void *arg)
+{
+    (*(void (**)(void))arg)();
+    return NULL;
+}
+
+static void run(pthread_attr_t *attr, void (*call)(void))
+{
+    pthread_t thread;
+    must(pthread_create(&thread, attr, body, &call), "pthread_create");
+    must(pthread_join(thread, NULL), "pthread_join");
+}
+
+/* The stack that a thread uses which makes this call. */
+static size_t used(void (*call)(void))
+{
+    static uint8_t *stack;
+    size_t i;
+    pthread_attr_t attr;
+    if (stack == NULL) {
+        stack = mmap(NULL, PAINTED, PROT_READ | PROT_WRITE, MAP_PRIVATE | MAP_ANONYMOUS, -1, 0);
+        must(stack == MAP_FAILED, "mmap");
+    }
+    memset(stack, PAINT, PAINTED);
+    must(pthread_attr_init(&attr), "pthread_attr_init");
+    must(pthread_attr_setstack(&attr, stack, PAINTED), "pthread_attr_setstack");
+    run(&attr, call);
+    must(pthread_attr_destroy(&attr), "pthread_attr_destroy");
+    for (i = 0; i < PAINTED && stack[i] == PAINT;)
+        i++;
+    return PAINTED - i;
+}
+
+/* Runs the call in a child's small thread; the child's exit status. */
+static int small(void (*call)(void))
+{
+    int status;
+    pid_t child;
+    fflush(stdout);
+    child = fork();
+    must(child < 0, "fork");
+    if (child == 0) {
+        pthread_attr_t attr;
+        must(pthread_attr_init(&attr), "pthread_attr_init");
+        must(pthread_attr_setstacksize(&attr, (size_t)sysconf(_SC_THREAD_STACK_MIN) + LIMIT),
+             "pthread_attr_setstacksize");
+        run(&attr, call);
+        _exit(0);
+    }
+    must(waitpid(child, &status, 0) != child, "waitpid");
+    return status;
+}
+
+/* Whether a case returns its number and keeps to the limit, both ways. */
+static int holds(size_t own, size_t which)
+{
+    const char *name = cases[which].name;
+    size_t bytes;
+    int status;
+    cases[which].prepare();
+    bytes = used(cases[which].call);
+    bytes = bytes > own ? bytes - own : 0;
+    if (number != cases[which].number) {
+        printf("FAILED stack: %s returned %d, not %d\n", name, number, cases[which].number);
+        return 0;
+    }
+    if (bytes > LIMIT) {
+        printf("FAILED stack: %s used %lu bytes\n", name, (unsigned long)bytes);
+        return 0;
+    }
+    status = small(cases[which].call);
+    if (status != 0) {
+        printf("FAILED stack: %s in a small thread: %s\n", name,
+               WIFSIGNALED(status) ? strsignal(WTERMSIG(status)) : "failed");
+        return 0;
+    }
+    printf("ok stack: %-32s %6lu bytes\n", name, (unsigned long)bytes);
+    return 1;
+}
+
+int main(void)
+{
+    size_t i, own = used(nothing);
+    int failed = 0;
+    for (i = 0; i < sizeof cases / sizeof *cases; i++)
+        failed |= !holds(own, i);
+    return failed;
+}

@@ -1,0 +1,13 @@
+#!/usr/bin/env bash
+# The tests of the Rust wrapper, its documentation's examples among them, and of
+# the second program.
+source "$(dirname "${BASH_SOURCE[0]}")/common.bash"
+
+cd "$root/rust"
+for crate in leap second; do
+    quietly "cargo test of $crate" cargo test --offline --locked -p "$crate"
+    sed -i -n "s/^test \(.*\) \.\.\. ok$/ok $crate: \1/p" "$log"
+    count_oks "$crate"
+done
+
+finish
