@@ -80,7 +80,7 @@ padded (c ∷ cs) = cond (anySingle cs) (c ∷ padded cs) (cond (ltb c 16) (9 * 
 unfoldable pub evened : List ℕ → List ℕ
 evened cs = cond (eqb (length (spread cs) % 2) 0) cs (padded cs)
 
--- two nybbles to a byte, the first as its upper half
+-- two nybbles to a byte, the first as its upper half; the count is even, so none is left over
 unfoldable pub pack : List ℕ → List ℕ
 pack [] = []
 pack (a ∷ []) = []
