@@ -153,7 +153,12 @@ length-pack [] = refl
 length-pack (a ∷ []) = refl
 length-pack (a ∷ b ∷ ns) = let i = length-pack ns in omega arith
 
--- the nybble count is even: each nybble of a schedule's codes is a half of a byte of its list
-pub no-nybble-lost : (s : Schedule) → length (spread (spelling s)) ≡ 2 * length (nybblesOf s)
+-- the nybble count is even: two nybbles a byte
+pub nybble-count : (s : Schedule) → length (spread (spelling s)) ≡ 2 * length (nybblesOf s)
 unfolding nybblesOf spelling
-no-nybble-lost s = let e = evened-even (plainCodes s) in let l = length-pack (spread (spelling s)) in omega arith
+nybble-count s = let e = evened-even (plainCodes s) in let l = length-pack (spread (spelling s)) in omega arith
+
+-- the nybbles of a well-formed schedule's list are those of its codes: none is lost
+pub no-nybble-lost : (s : Schedule) → wellFormed s ≡ true → nybbles (nybblesOf s) ≡ spread (spelling s)
+unfolding nybblesOf spelling
+no-nybble-lost s w = unpacked (spread (spelling s)) (evened-even (plainCodes s)) (spread-all (spelling s) (spelling-all s w))

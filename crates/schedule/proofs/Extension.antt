@@ -14,8 +14,9 @@ use Rattle.schedule.specs.declared.Sign.{Sign}
 use Rattle.schedule.specs.declared.Sign.the-variants.{Positive, Negative}
 use Rattle.schedule.specs.declared.Leap.{Leap}
 use Rattle.schedule.specs.declared.Schedule.{Schedule}
-use Rattle.schedule.specs.Schedule.{noLeap, leapsOf}
+use Rattle.schedule.specs.Schedule.{noLeap, leapsOf, gapsFit, wellFormed}
 use Rattle.schedule.proofs.Cases.{by-bool}
+use Rattle.schedule.proofs.Gaps.{later, before-end, parts}
 use Rattle.schedule.proofs.Formed.{in-use}
 use Rattle.schedule.specs.Extends.{below, Extends, sameSign, sameLeap, sameLeaps, extends}
 
@@ -93,6 +94,17 @@ leaps-same : (xs : List Leap) → sameLeaps xs xs ≡ true
 unfolding sameLeaps
 leaps-same [] = refl
 leaps-same (x ∷ xs) = rw (eq-eqb (x .month) (x .month) refl, sign-same (x .sign)) (leaps-same xs)
+
+all-below : (ls : List Leap) (from expiry : ℕ) → gapsFit from ls expiry ≡ true → below expiry ls ≡ ls
+unfolding below
+all-below [] from expiry f = refl
+all-below (l ∷ ls) from expiry f =
+    let rest = later from l ls expiry f in
+    rw (lt-ltb (l .month) expiry (before-end ls (l .month) expiry rest), all-below ls (l .month) expiry rest)
+
+-- equal lists extend each other
+pub extends-itself : (s : Schedule) → wellFormed s ≡ true → Extends s s
+extends-itself s w = record { same = all-below (leapsOf s) 0 (s .expiry) (parts s w .gaps); later = omega arith }
 
 -- the test passes exactly where the one list extends the other
 pub extends-means : (longer shorter : Schedule) → (extends longer shorter ≡ true) ↔ Extends longer shorter

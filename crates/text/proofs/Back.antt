@@ -81,7 +81,7 @@ list-back (l ∷ ls) from p expiry s f h room =
     ∙ (leap-back (l .month - from) _ from (l .month) s (l .sign) (textFrom (l .month) ls expiry) (omega arith) (omega arith) (omega arith) (omega arith)
     ∙ list-back ls (l .month) _ expiry (withLeap s (l .month) (l .sign)) (later from l ls expiry f) h (omega arith)))
 
--- every well-formed schedule reads back as itself
+-- every well-formed schedule (with 256 places, as every schedule of the code has) reads back as itself
 pub reads-back : (s : Schedule) → length (s .leaps) ≡ 256 → wellFormed s ≡ true → readText (textOf s) ≡ record { number = 0; place = 0; schedule = s }
 unfolding readText textOf
 reads-back s full w =

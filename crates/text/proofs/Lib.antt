@@ -5,5 +5,6 @@ pub mod Follow
 pub mod Laws
 pub mod Steps
 pub mod Sound
+pub mod Places
 pub mod Back
 pub mod Spelling

