@@ -19,7 +19,7 @@ use Rattle.nybbles.specs.Write.{halves, spread, pack, plainCodes, spelli
 use Rattle.nybbles.specs.Inner.{Holds}
 use Rattle.nybbles.proofs.Codes.{All, more, count, upper, lower}
 use Rattle.nybbles.proofs.Evened.{halves-few, halves-length, spread-next, spread-end}
-use Rattle.nybbles.proofs.Division.{IsNybble, spelling-all, spread-all, evened-even, no-nybble-lost}
+use Rattle.nybbles.proofs.Division.{IsNybble, spelling-all, spread-all, evened-even, nybble-count}
 
 -- a whole byte put, which is its two nybbles put
 put-byte : (bs : List ℕ) (at k m n : ℕ) → at ≡ 2 * k → n < 16 → nybbles (set bs k (m * 16 + n)) ≡ set (set (nybbles bs) at m) (suc at) n
@@ -134,10 +134,10 @@ module _ (s : Schedule) (codes : List ℕ) (n : ℕ) (h : Holds codes n (spellin
 
   module _ (m : ℕ) (e : m ≡ length (spread (take n codes))) where
     pub bytes-counted : m / 2 ≡ length (nybblesOf s)
-    bytes-counted = omega (arith, no-nybble-lost s, ap length spread-held)
+    bytes-counted = omega (arith, nybble-count s, ap length spread-held)
 
     pub bytes-fit : (out : List ℕ) → m / 2 ≤ length out → length (spread (take n codes)) ≤ length (nybbles out)
-    bytes-fit out l = omega (arith, no-nybble-lost s, ap length spread-held, count out)
+    bytes-fit out l = omega (arith, nybble-count s, ap length spread-held, count out)
 
   pub bytes-put : wellFormed s ≡ true → (out exit : List ℕ) → nybbles exit ≡ sets (nybbles out) 0 (spread (take n codes)) → exit ≡ sets out 0 (nybblesOf s)
   unfolding nybblesOf spelling

@@ -56,8 +56,8 @@ returns-2 c =
     let at = c .before .before .before .before .before .before in
     let digit = sym (c .before .before .before .is-digit .ensures) ∙ c .before .before .if1 .taken in
     λ t s. at .loop .inv .1 .1 .1 t s
-        ∙ laws.malformed _ _ _ t s (c .before .before .before .before .before .loop-test .taken) digit
-        (fourth-digit (at .loop .gap) (getD (at .before .before .args .bytes .now) (at .loop .at) 0) digit (omega arith))
+    ∙ laws.malformed _ _ _ t s (c .before .before .before .before .before .loop-test .taken) digit
+    (fourth-digit (at .loop .gap) (getD (at .before .before .args .bytes .now) (at .loop .at) 0) digit (omega arith))
 
 add-at : tie.Need-add-at Inv-loop μ-loop
 add-at c = search needs
