@@ -1,0 +1,9 @@
+-- The laws of output, decimal, hex and parts that the crates above cite.
+pub mod Cases
+pub mod Lists
+pub mod Bytes
+pub mod Putting
+pub mod Digits
+pub mod Signs
+pub mod Halves
+pub mod Splitting

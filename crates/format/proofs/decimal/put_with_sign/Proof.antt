@@ -1,0 +1,39 @@
+-- `format::decimal::put_with_sign` meets its contract: the integer is below zero, or it is not. Assumes nothing.
+use borrow.Author.Needs.{needs}
+use Rattle.format.proofs.Putting.{two-puts}
+use Rattle.format.proofs.Signs as signs
+use Rattle.format.proofs.decimal.put_with_sign.Statement.{statement}
+use Rattle.format.proofs.decimal.put_with_sign.Tie as tie
+
+returns : tie.Need-returns
+returns c =
+    let put = c .before .before .before .before .before .before .before .put in
+    let put-decimal = c .before .before .put-decimal in
+    let fits = c .before .before .before .before .before .before .before .before .before .before .before .fits in
+    let size-of = c .before .before .before .size-of in
+    let if1 = c .before .before .before .before .before .before .before .before .before .if1 in
+    two-puts (put .ensures) (put-decimal .ensures .puts) (signs.is-below (fits .z) (size-of .ensures) (if1 .taken) .1)
+
+returns-2 : tie.Need-returns-2
+returns-2 c =
+    let put2 = c .before .before .before .before .before .before .before .put2 in
+    let put-decimal2 = c .before .before .put-decimal2 in
+    let fits = c .before .before .before .before .before .before .before .before .before .before .before .fits in
+    let size-of2 = c .before .before .before .size-of2 in
+    let if1 = c .before .before .before .before .before .before .before .before .before .if1 in
+    two-puts (put2 .ensures) (put-decimal2 .ensures .puts) (signs.is-above (fits .z) (size-of2 .ensures) (if1 .left) .1)
+
+pub put-with-sign-spec : {M : Type 1} → statement M
+put-with-sign-spec =
+    tie.close
+    (tie.spec
+    (λ c κs. search needs)
+    (λ c κs. search needs)
+    (λ c κs. search needs)
+    (λ c. search needs)
+    returns
+    (λ c κs. search needs)
+    (λ c κs. search needs)
+    (λ c κs. search needs)
+    (λ c. search needs)
+    returns-2)
