@@ -141,3 +141,7 @@ few p e h = record { puts = one-put (p .puts) e; short = rw e (omega (arith, p .
 -- a byte is few bytes
 pub a-byte : {out out′ : List ℕ} {at at′ b : ℕ} → Puts out out′ at at′ (b ∷ []) → PutsUpTo 1 out out′ at at′ (b ∷ [])
 a-byte p = record { puts = p; short = omega arith }
+
+-- a text of which the length is known, by another name
+pub text-put : {most : ℕ} {out out′ xs bytes : List ℕ} {at at′ : ℕ} → Puts out out′ at at′ xs → bytes ≡ xs → length xs ≤ most → PutsUpTo most out out′ at at′ bytes
+text-put p e h = record { puts = one-put p e; short = rw e h }

@@ -64,7 +64,7 @@ pub fn put_signed(out: &mut [u8], at: usize, z: i32) -> usize
 
 // Puts an integer with its sign, `+` for zero.
 pub fn put_with_sign(out: &mut [u8], at: usize, z: i32) -> usize
-    ensures { λ r. ⌜ Puts (now (out .entry)) (now (out .exit)) at r (withSign z) ⌝ }
+    ensures { λ r. ⌜ PutsUpTo 21 (now (out .entry)) (now (out .exit)) at r (withSign z) ⌝ }
 {
     if z < 0 {
         let next = put(out, at, b'-');

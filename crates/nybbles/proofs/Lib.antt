@@ -12,3 +12,4 @@ pub mod Division
 mod Packed
 pub mod Meaning
 pub mod Back
+pub mod Room

@@ -8,3 +8,4 @@ pub mod Sound
 pub mod Places
 pub mod Back
 pub mod Spelling
+pub mod Room

@@ -1,6 +1,7 @@
 -- `format::decimal::put_with_sign` meets its contract: the integer is below zero, or it is not. Assumes nothing.
 use borrow.Author.Needs.{needs}
-use Rattle.format.proofs.Putting.{two-puts}
+use native.Mathlib.Omega.{arith}
+use Rattle.format.proofs.Putting.{up-to, a-byte}
 use Rattle.format.proofs.Signs as signs
 use Rattle.format.proofs.decimal.put_with_sign.Statement.{statement}
 use Rattle.format.proofs.decimal.put_with_sign.Tie as tie
@@ -12,7 +13,7 @@ returns c =
     let fits = c .before .before .before .before .before .before .before .before .before .before .before .fits in
     let size-of = c .before .before .before .size-of in
     let if1 = c .before .before .before .before .before .before .before .before .before .if1 in
-    two-puts (put .ensures) (put-decimal .ensures .puts) (signs.is-below (fits .z) (size-of .ensures) (if1 .taken) .1)
+    up-to (a-byte (put .ensures)) (put-decimal .ensures) (signs.is-below (fits .z) (size-of .ensures) (if1 .taken) .1) (omega arith)
 
 returns-2 : tie.Need-returns-2
 returns-2 c =
@@ -21,7 +22,7 @@ returns-2 c =
     let fits = c .before .before .before .before .before .before .before .before .before .before .before .fits in
     let size-of2 = c .before .before .before .size-of2 in
     let if1 = c .before .before .before .before .before .before .before .before .before .if1 in
-    two-puts (put2 .ensures) (put-decimal2 .ensures .puts) (signs.is-above (fits .z) (size-of2 .ensures) (if1 .left) .1)
+    up-to (a-byte (put2 .ensures)) (put-decimal2 .ensures) (signs.is-above (fits .z) (size-of2 .ensures) (if1 .left) .1) (omega arith)
 
 pub put-with-sign-spec : {M : Type 1} → statement M
 put-with-sign-spec =

@@ -1,0 +1,36 @@
+-- `answers::times::put_asked` meets its contract: the list is refused, or it is asked. Assumes nothing.
+use borrow.Author.Needs.{needs}
+use native.Mathlib.Omega.{arith}
+use Rattle.format.proofs.Putting.{few}
+use Rattle.answers.specs.Times.{askedUnder}
+use Rattle.answers.proofs.Taken.{read-refused, read-taken}
+use Rattle.answers.proofs.times.put_asked.Statement.{statement}
+use Rattle.answers.proofs.times.put_asked.Tie as tie
+
+returns : tie.Need-returns
+unfolding askedUnder
+returns c =
+    let put-refusal-at = c .before .before .put-refusal-at in
+    let read-list = c .before .before .before .before .before .read-list in
+    let if1 = c .before .before .before .before .if1 in
+    few (put-refusal-at .ensures) (read-refused _ (read-list .ensures) (if1 .taken)) (omega arith)
+
+returns-2 : tie.Need-returns-2
+unfolding askedUnder
+returns-2 c =
+    let put-asked-of = c .before .before .put-asked-of in
+    let read-list = c .before .before .before .before .before .before .read-list in
+    let if1 = c .before .before .before .before .before .if1 in
+    few (put-asked-of .ensures) (read-taken _ (read-list .ensures) (if1 .left)) (omega arith)
+
+pub put-asked-spec : {M : Type 1} → statement M
+put-asked-spec =
+    tie.close
+    (tie.spec
+    (λ c κs. search needs)
+    (λ c κs. search needs)
+    (λ c. search needs)
+    returns
+    (λ c κs. search needs)
+    (λ c. search needs)
+    returns-2)

@@ -1,0 +1,42 @@
+-- What only the private functions of src/ are held to: the clock's answers as the code has them.
+-- No promise to a caller rests on reading this file.
+-- Assumes nothing: these are definitions.
+use Prim.Native.Nat.{ℕ}
+use mathlib.Core.List.{List, _∷_, _++_}
+use Rattle.format.specs.Decimal.{decimal, signed}
+use Rattle.clock.specs.declared.UtcMicros.{UtcMicros}
+use Rattle.clock.specs.declared.DtaiAnswer.{DtaiAnswer}
+use Rattle.clock.specs.declared.DtaiAnswer.the-variants as dtai
+use Rattle.clock.specs.declared.TaiAnswer.{TaiAnswer}
+use Rattle.clock.specs.declared.TaiAnswer.the-variants as tai
+use Rattle.clock.specs.declared.UtcAnswer.{UtcAnswer}
+use Rattle.clock.specs.declared.UtcAnswer.the-variants as utc
+use Rattle.clock.specs.declared.UtsAnswer.{UtsAnswer}
+use Rattle.clock.specs.declared.UtsAnswer.the-variants as uts
+use Rattle.clock.specs.declared.MicrosAnswer.{MicrosAnswer}
+use Rattle.clock.specs.declared.MicrosAnswer.the-variants as micros
+use Rattle.line.specs.Refusal.{spaceByte, refusal}
+
+-- the answers of the clock as they are put
+abbrev pub instant : ℕ → UtcMicros → List ℕ
+instant day t = decimal day ++ (spaceByte ∷ decimal (t .0))
+
+abbrev pub ofDtai : DtaiAnswer → List ℕ
+ofDtai (dtai.Given z) = signed z
+ofDtai (dtai.Refused n) = refusal n
+
+abbrev pub ofTai : TaiAnswer → List ℕ
+ofTai (tai.Given x) = decimal (x .0)
+ofTai (tai.Refused n) = refusal n
+
+abbrev pub ofUtc : UtcAnswer → List ℕ
+ofUtc (utc.Given day t) = instant day t
+ofUtc (utc.Refused n) = refusal n
+
+abbrev pub ofUts : UtsAnswer → List ℕ
+ofUts (uts.Given u) = decimal (u .0)
+ofUts (uts.Refused n) = refusal n
+
+abbrev pub ofMicros : MicrosAnswer → List ℕ
+ofMicros (micros.Given t) = decimal (t .0)
+ofMicros (micros.Refused n) = refusal n

@@ -1,0 +1,113 @@
+// Answers to time questions under a list.
+ghost use Rattle.format.specs.Output.{PutsUpTo};
+ghost use Rattle.answers.specs.Times.{askedOf, askedUnder, questionOf};
+ghost use Rattle.answers.specs.Inner.{instant, ofDtai, ofTai, ofUtc, ofUts, ofMicros};
+use crate::lists::read_list;
+use clock::DtaiAnswer;
+use clock::MicrosAnswer;
+use clock::TaiAnswer;
+use clock::TaiMicros;
+use clock::UtcAnswer;
+use clock::UtcMicros;
+use clock::UtsAnswer;
+use clock::UtsNanos;
+use format::decimal::put_decimal;
+use format::decimal::put_signed;
+use format::output::put;
+use line::refusal::put_refusal;
+use line::refusal::put_refusal_at;
+use schedule::Schedule;
+
+// A time question, with a day or an instant.
+pub enum Asked {
+    Dtai(u64),
+    Tai(u64, UtcMicros),
+    Utc(TaiMicros),
+    Uts(u64, UtcMicros),
+    Unsmooth(u64, UtsNanos),
+}
+
+// Puts DTAI, or the refusal.
+fn put_dtai(out: &mut [u8], at: usize, a: DtaiAnswer) -> usize
+    ensures { λ r. ⌜ PutsUpTo 41 (now (out .entry)) (now (out .exit)) at r (ofDtai a) ⌝ }
+{
+    match a {
+        DtaiAnswer::Given(z) => put_signed(out, at, z),
+        DtaiAnswer::Refused(n) => put_refusal(out, at, n),
+    }
+}
+
+// Puts a TAI, or the refusal.
+fn put_tai(out: &mut [u8], at: usize, a: TaiAnswer) -> usize
+    ensures { λ r. ⌜ PutsUpTo 41 (now (out .entry)) (now (out .exit)) at r (ofTai a) ⌝ }
+{
+    match a {
+        TaiAnswer::Given(x) => put_decimal(out, at, x.0),
+        TaiAnswer::Refused(n) => put_refusal(out, at, n),
+    }
+}
+
+// Puts a day and the microseconds of it.
+fn put_instant(out: &mut [u8], at: usize, day: u64, t: UtcMicros) -> usize
+    ensures { λ r. ⌜ PutsUpTo 41 (now (out .entry)) (now (out .exit)) at r (instant day t) ⌝ }
+{
+    let a = put_decimal(out, at, day);
+    let b = put(out, a, b' ');
+    put_decimal(out, b, t.0)
+}
+
+// Puts an instant of UTC, or the refusal.
+fn put_utc(out: &mut [u8], at: usize, a: UtcAnswer) -> usize
+    ensures { λ r. ⌜ PutsUpTo 41 (now (out .entry)) (now (out .exit)) at r (ofUtc a) ⌝ }
+{
+    match a {
+        UtcAnswer::Given(day, t) => put_instant(out, at, day, t),
+        UtcAnswer::Refused(n) => put_refusal(out, at, n),
+    }
+}
+
+// Puts a UTS, or the refusal.
+fn put_uts(out: &mut [u8], at: usize, a: UtsAnswer) -> usize
+    ensures { λ r. ⌜ PutsUpTo 41 (now (out .entry)) (now (out .exit)) at r (ofUts a) ⌝ }
+{
+    match a {
+        UtsAnswer::Given(u) => put_decimal(out, at, u.0),
+        UtsAnswer::Refused(n) => put_refusal(out, at, n),
+    }
+}
+
+// Puts microseconds of a UTC day, or the refusal.
+fn put_micros(out: &mut [u8], at: usize, a: MicrosAnswer) -> usize
+    ensures { λ r. ⌜ PutsUpTo 41 (now (out .entry)) (now (out .exit)) at r (ofMicros a) ⌝ }
+{
+    match a {
+        MicrosAnswer::Given(t) => put_decimal(out, at, t.0),
+        MicrosAnswer::Refused(n) => put_refusal(out, at, n),
+    }
+}
+
+// Puts the answer of a schedule to a time question.
+fn put_asked_of(out: &mut [u8], at: usize, s: Schedule, q: Asked) -> usize
+    ensures { λ r. ⌜ PutsUpTo 41 (now (out .entry)) (now (out .exit)) at r (askedOf (questionOf q) s) ⌝ }
+{
+    match q {
+        Asked::Dtai(day) => put_dtai(out, at, clock::dtai(s, day)),
+        Asked::Tai(day, t) => put_tai(out, at, clock::utc_to_tai(s, day, t)),
+        Asked::Utc(x) => put_utc(out, at, clock::tai_to_utc(s, x)),
+        Asked::Uts(day, t) => put_uts(out, at, clock::utc_to_uts(s, day, t)),
+        Asked::Unsmooth(day, u) => put_micros(out, at, clock::uts_to_utc(s, day, u)),
+    }
+}
+
+// Puts the answer of a list to a time question.
+pub fn put_asked(out: &mut [u8], at: usize, list: &[u8], q: Asked) -> usize
+    ensures { λ r. ⌜ PutsUpTo 42 (now (out .entry)) (now (out .exit)) at r (askedUnder (now (list .entry)) (questionOf q)) ⌝ }
+{
+    let r = read_list(list);
+    let number = r.number;
+    if number != 0 {
+        return put_refusal_at(out, at, number, r.place);
+    }
+    let s = r.schedule;
+    put_asked_of(out, at, s, q)
+}

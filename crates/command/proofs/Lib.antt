@@ -1,0 +1,5 @@
+-- The laws of question lines.
+mod Others
+mod Fields
+mod Unhexed
+mod Going

@@ -1,0 +1,99 @@
+-- A word that does not go with so many fields is answered by what was expected. Assumes nothing.
+use mathlib.Core.Path.{_≡_, refl}
+use mathlib.Core.Bool.{Bool}
+use mathlib.Core.List.{List, [], _∷_}
+use Prim.Native.Nat.{ℕ}
+use types.Run.{OneOf, miss}
+use denote.Enum.Declared.{tagOf}
+use Rattle.format.specs.Decimal.{numberOf}
+use Rattle.format.specs.declared.decimal.Number.the-variants.{Given, Missing}
+use Rattle.line.proofs.words.Word as word
+use Rattle.line.specs.declared.words.Word.{Word}
+use Rattle.line.specs.declared.words.Word.the-variants.{Show, Nybbles, Text, Dtai, Tai, Utc, Uts, Unsmooth, Other}
+use Rattle.line.specs.Words.{expected}
+use Rattle.command.specs.Answer.{withOne, withTwo, withThree}
+
+abbrev other-one-tags : List ℕ
+other-one-tags = 3 ∷ 4 ∷ 5 ∷ 6 ∷ 7 ∷ 8 ∷ []
+
+-- a word that does not go with one field
+pub other-one : (lines : Bool) (x : List ℕ) (w : Word) → OneOf other-one-tags (tagOf word.the-type w) → withOne lines w x ≡ expected w
+unfolding withOne
+other-one lines x Show k = absurd (miss other-one-tags 0 tt k)
+other-one lines x Nybbles k = absurd (miss other-one-tags 1 tt k)
+other-one lines x Text k = absurd (miss other-one-tags 2 tt k)
+other-one lines x Dtai k = refl
+other-one lines x Tai k = refl
+other-one lines x Utc k = refl
+other-one lines x Uts k = refl
+other-one lines x Unsmooth k = refl
+other-one lines x Other k = refl
+
+abbrev other-two-tags : List ℕ
+other-two-tags = 0 ∷ 1 ∷ 2 ∷ 4 ∷ 6 ∷ 7 ∷ 8 ∷ []
+
+-- with two
+pub other-two : (list x : List ℕ) (w : Word) → OneOf other-two-tags (tagOf word.the-type w) → withTwo w list x ≡ expected w
+unfolding withTwo
+other-two list x Show k = refl
+other-two list x Nybbles k = refl
+other-two list x Text k = refl
+other-two list x Dtai k = absurd (miss other-two-tags 3 tt k)
+other-two list x Tai k = refl
+other-two list x Utc k = absurd (miss other-two-tags 5 tt k)
+other-two list x Uts k = refl
+other-two list x Unsmooth k = refl
+other-two list x Other k = refl
+
+abbrev other-three-tags : List ℕ
+other-three-tags = 0 ∷ 1 ∷ 2 ∷ 3 ∷ 5 ∷ 8 ∷ []
+
+-- with three
+pub other-three : (list x y : List ℕ) (w : Word) → OneOf other-three-tags (tagOf word.the-type w) → withThree w list x y ≡ expected w
+unfolding withThree
+other-three list x y Show k = refl
+other-three list x y Nybbles k = refl
+other-three list x y Text k = refl
+other-three list x y Dtai k = refl
+other-three list x y Tai k = absurd (miss other-three-tags 4 tt k)
+other-three list x y Utc k = refl
+other-three list x y Uts k = absurd (miss other-three-tags 6 tt k)
+other-three list x y Unsmooth k = absurd (miss other-three-tags 7 tt k)
+other-three list x y Other k = refl
+
+-- a field that is to be a number and is none
+pub no-number : (w : Word) (list x : List ℕ) → numberOf x ≡ Missing → withTwo w list x ≡ expected w
+unfolding withTwo
+no-number Show list x e = refl
+no-number Nybbles list x e = refl
+no-number Text list x e = refl
+no-number Dtai list x e = rw e
+no-number Tai list x e = refl
+no-number Utc list x e = rw e
+no-number Uts list x e = refl
+no-number Unsmooth list x e = refl
+no-number Other list x e = refl
+
+pub no-first : (w : Word) (list x y : List ℕ) → numberOf x ≡ Missing → withThree w list x y ≡ expected w
+unfolding withThree
+no-first Show list x y e = refl
+no-first Nybbles list x y e = refl
+no-first Text list x y e = refl
+no-first Dtai list x y e = refl
+no-first Tai list x y e = rw e
+no-first Utc list x y e = refl
+no-first Uts list x y e = rw e
+no-first Unsmooth list x y e = rw e
+no-first Other list x y e = refl
+
+pub no-second : (w : Word) (list x y : List ℕ) (n : ℕ) → numberOf x ≡ Given n → numberOf y ≡ Missing → withThree w list x y ≡ expected w
+unfolding withThree
+no-second Show list x y n e f = refl
+no-second Nybbles list x y n e f = refl
+no-second Text list x y n e f = refl
+no-second Dtai list x y n e f = refl
+no-second Tai list x y n e f = rw (e, f)
+no-second Utc list x y n e f = refl
+no-second Uts list x y n e f = rw (e, f)
+no-second Unsmooth list x y n e f = rw (e, f)
+no-second Other list x y n e f = refl

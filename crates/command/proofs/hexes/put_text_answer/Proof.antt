@@ -1,0 +1,63 @@
+-- `command::hexes::put_text_answer` meets its contract: the field is no hex, or a list that is refused, or one that is put as text. Assumes nothing.
+use borrow.Author.Needs.{needs}
+use borrow.Author.Tests.{not-true, not-false}
+use native.Mathlib.Omega.{arith}
+use Rattle.format.proofs.Putting.{few}
+use mathlib.Core.Path.{sym, _∙_}
+use Rattle.format.specs.Hex.{unhex}
+use Rattle.nybbles.proofs.Sound.{accepted-well-formed}
+use Rattle.command.specs.Answer.{textAnswer}
+use Rattle.answers.proofs.Taken.{read-refused, read-taken}
+use Rattle.command.proofs.hexes.put_text_answer.Statement.{statement}
+use Rattle.command.proofs.hexes.put_text_answer.Tie as tie
+
+returns : tie.Need-returns
+unfolding textAnswer
+returns c =
+    let put-expected = c .before .before .put-expected in
+    let is-hex = c .before .before .before .before .before .is-hex in
+    let if1 = c .before .before .before .before .if1 in
+    few (put-expected .ensures) (simp (← is-hex .ensures, not-true (is-hex .result) (if1 .taken))) (omega arith)
+
+returns-2 : tie.Need-returns-2
+unfolding textAnswer
+returns-2 c =
+    let put-refusal-at = c .before .before .put-refusal-at in
+    let is-hex = c .before .before .before .before .before .before .before .is-hex in
+    let if1 = c .before .before .before .before .before .before .if1 in
+    let read-hex = c .before .before .before .before .before .read-hex in
+    let if2 = c .before .before .before .before .if2 in
+    few (put-refusal-at .ensures) (simp (← is-hex .ensures, not-false (is-hex .result) (if1 .left)) (read-refused _ (read-hex .ensures) (if2 .taken))) (omega arith)
+
+put-text-requires : tie.Need-put-text-requires
+put-text-requires c κs =
+    let read-hex = c .before .before .before .read-hex in
+    let args = c .before .before .before .before .before .before .before .before .args in
+    let if2 = c .before .before .if2 in
+    rw (read-hex .ensures) (accepted-well-formed (unhex (args .field .now)) (rw (read-hex .ensures) at (if2 .left)))
+
+returns-3 : tie.Need-returns-3
+unfolding textAnswer
+returns-3 c =
+    let put-text = c .before .before .put-text in
+    let is-hex = c .before .before .before .before .before .before .before .before .is-hex in
+    let if1 = c .before .before .before .before .before .before .before .if1 in
+    let read-hex = c .before .before .before .before .before .before .read-hex in
+    let if2 = c .before .before .before .before .before .if2 in
+    few (put-text .ensures) (simp (← is-hex .ensures, not-false (is-hex .result) (if1 .left)) (read-taken _ (read-hex .ensures) (if2 .left))) (omega arith)
+
+pub put-text-answer-spec : {M : Type 1} → statement M
+put-text-answer-spec =
+    tie.close
+    (tie.spec
+    (λ c κs. search needs)
+    (λ c κs. search needs)
+    (λ c. search needs)
+    returns
+    (λ c κs. search needs)
+    (λ c κs. search needs)
+    (λ c. search needs)
+    returns-2
+    put-text-requires
+    (λ c. search needs)
+    returns-3)

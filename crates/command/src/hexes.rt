@@ -1,0 +1,57 @@
+// Answers about a nybble list that a field has in hex.
+ghost use mathlib.Core.Path.{_≡_};
+ghost use mathlib.Core.Bool.{true};
+ghost use Prim.Native.Nat.{_≤_};
+ghost use lib.ListN.{length};
+ghost use Rattle.format.specs.Output.{PutsUpTo};
+ghost use Rattle.format.specs.Hex.{unhex};
+ghost use Rattle.schedule.specs.Schedule.{wellFormed};
+ghost use Rattle.text.specs.Write.{textOf};
+ghost use Rattle.nybbles.specs.Read.{readNybbles};
+ghost use Rattle.command.specs.Answer.{maxLine, textAnswer};
+use format::hex::is_hex;
+use format::hex::put_unhex;
+use format::output::put_all;
+use line::refusal::put_refusal_at;
+use line::words::Word;
+use line::words::put_expected;
+use schedule::Reading;
+use schedule::Schedule;
+
+// Puts a schedule as text.
+fn put_text(out: &mut [u8], at: usize, s: Schedule) -> usize
+    requires { ⌜ wellFormed s ≡ true ⌝ }
+    ensures { λ r. ⌜ PutsUpTo 1028 (now (out .entry)) (now (out .exit)) at r (textOf s) ⌝ }
+{
+    let mut bytes = [0u8; 1028];
+    let w = text::write_text(s, &mut bytes);
+    let n = w.count;
+    put_all(out, at, &bytes[..n])
+}
+
+// Reads a nybble list that a field has in hex.
+fn read_hex(field: &[u8]) -> Reading
+    requires { ⌜ length (now field) ≤ maxLine ⌝ }
+    ensures { λ r. ⌜ r ≡ readNybbles (unhex (now (field .entry))) ⌝ }
+{
+    let mut bytes = [0u8; 4096];
+    let n = put_unhex(&mut bytes, 0, field);
+    nybbles::read_nybbles(&bytes[..n])
+}
+
+// Puts the answer about a nybble list, in hex, as text.
+pub(crate) fn put_text_answer(out: &mut [u8], at: usize, field: &[u8]) -> usize
+    requires { ⌜ length (now field) ≤ maxLine ⌝ }
+    ensures { λ r. ⌜ PutsUpTo 1028 (now (out .entry)) (now (out .exit)) at r (textAnswer (now (field .entry))) ⌝ }
+{
+    if !is_hex(field) {
+        return put_expected(out, at, Word::Text);
+    }
+    let r = read_hex(field);
+    let number = r.number;
+    if number != 0 {
+        return put_refusal_at(out, at, number, r.place);
+    }
+    let s = r.schedule;
+    put_text(out, at, s)
+}

@@ -1,0 +1,40 @@
+// Refusals as an answer has them, and what stands between the lines of an answer.
+ghost use mathlib.Core.Path.{_≡_};
+ghost use Rattle.format.specs.Output.{PutsUpTo};
+ghost use Rattle.line.specs.Refusal.{refusal, refusalAt, between};
+use format::decimal::put_decimal;
+use format::output::put;
+
+fn wide(x: u8) -> u64
+    ensures { λ r. ⌜ r ≡ x ⌝ }
+{
+    x as u64
+}
+
+// Puts a refusal.
+pub fn put_refusal(out: &mut [u8], at: usize, number: u8) -> usize
+    ensures { λ r. ⌜ PutsUpTo 21 (now (out .entry)) (now (out .exit)) at r (refusal number) ⌝ }
+{
+    let next = put(out, at, b'!');
+    put_decimal(out, next, wide(number))
+}
+
+// Puts the refusal of a list that does not read, with its place.
+pub fn put_refusal_at(out: &mut [u8], at: usize, number: u8, place: usize) -> usize
+    ensures { λ r. ⌜ PutsUpTo 42 (now (out .entry)) (now (out .exit)) at r (refusalAt number place) ⌝ }
+{
+    let a = put_refusal(out, at, number);
+    let b = put(out, a, b' ');
+    put_decimal(out, b, place as u64)
+}
+
+// Puts what stands between the lines of an answer: LF, or `; ` where the answer is to be one line.
+pub fn put_between(out: &mut [u8], at: usize, lines: bool) -> usize
+    ensures { λ r. ⌜ PutsUpTo 2 (now (out .entry)) (now (out .exit)) at r (between lines) ⌝ }
+{
+    if lines {
+        return put(out, at, b'\n');
+    }
+    let next = put(out, at, b';');
+    put(out, next, b' ')
+}

@@ -1,0 +1,111 @@
+-- The loop over the leaps: what holds at each leap, and what is put when it has ended.
+-- Assumes nothing.
+use mathlib.Core.Bool.{Bool, true}
+use mathlib.Core.Path.{_≡_, refl, sym, _∙_}
+use mathlib.Core.List.{List, [], _∷_, _++_, append-assoc}
+use Prim.Native.Nat.{ℕ, _+_, _-_, _*_, _≤_, _<_}
+use native.Mathlib.Omega.{arith}
+use lib.ListN.{length, getD, drop, drop-of-length-le}
+use Rattle.format.specs.Output.{PutsUpTo}
+use Rattle.format.proofs.Putting.{nothing, up-to}
+use Rattle.line.specs.Refusal.{between}
+use Rattle.schedule.specs.declared.Schedule.{Schedule}
+use Rattle.schedule.specs.Schedule.{noLeap, leapsOf, gapsFit, wellFormed}
+use Rattle.schedule.proofs.Gaps.{fits-lt, first, later, before-end, parts}
+use Rattle.schedule.proofs.Formed.{in-use, used}
+use Rattle.show.specs.Show.{stretch, stretches}
+use Rattle.show.specs.Inner.{shownFrom}
+
+-- of the bytes `whole`, all but `rest` are put, and those are at most so many
+pub record LeftUpTo (most : ℕ) (start out : List ℕ) (at next : ℕ) (whole rest : List ℕ) : Type 0 where
+  pub done : List ℕ
+  pub puts : PutsUpTo most start out at next done
+  pub makes : done ++ rest ≡ whole
+
+none-yet : (out : List ℕ) (at : ℕ) (whole : List ℕ) → LeftUpTo 0 out out at at whole whole
+none-yet out at whole = record { done = []; puts = record { puts = nothing out at; short = omega arith }; makes = refl }
+
+more : {most m n : ℕ} {start out out′ : List ℕ} {at next next′ : ℕ} {whole rest xs rest′ : List ℕ} → LeftUpTo m start out at next whole rest
+    → PutsUpTo n out out′ next next′ xs → rest ≡ xs ++ rest′ → m + n ≤ most → LeftUpTo most start out′ at next′ whole rest′
+more {xs = xs} {rest′ = rest′} l p e h =
+    record { done = l .done ++ xs; puts = up-to (l .puts) p refl h; makes = append-assoc (l .done) xs rest′ ∙ rw (← e) (l .makes) }
+
+all : {most m n : ℕ} {start out out′ : List ℕ} {at next next′ : ℕ} {whole rest : List ℕ} → LeftUpTo m start out at next whole rest
+    → PutsUpTo n out out′ next next′ rest → m + n ≤ most → PutsUpTo most start out′ at next′ whole
+all l p h = up-to (l .puts) p (sym (l .makes)) h
+
+-- the month of the leap at a place
+abbrev monthAt : Schedule → ℕ → ℕ
+monthAt s i = getD (s .leaps) i noLeap .month
+
+module _ (lines : Bool) (s : Schedule) (from i : ℕ) where
+  next-shown : i < length (leapsOf s)
+      → shownFrom lines s from (drop i (leapsOf s)) ≡ (stretch s from (monthAt s i) ++ between lines) ++ shownFrom lines s (monthAt s i) (drop (i + 1) (leapsOf s))
+  unfolding shownFrom stretches
+  next-shown h = rw (in-use s i h) (simp append-assoc)
+
+  last-shown : length (leapsOf s) ≤ i → shownFrom lines s from (drop i (leapsOf s)) ≡ shownFrom lines s from []
+  last-shown h = rw (drop-of-length-le (leapsOf s) h)
+
+-- at leap i, in the stretch that starts with month `from`: all but what is shown from there on is put, with at most 77 bytes a leap
+pub record Going (lines : Bool) (s : Schedule) (start out : List ℕ) (at next from i : ℕ) : Type 0 where
+  pub well : wellFormed s ≡ true
+  pub full : length (s .leaps) ≡ 256
+  pub inside : i ≤ s .count
+  pub gaps : gapsFit from (drop i (leapsOf s)) (s .expiry) ≡ true
+  pub left : LeftUpTo (i * 77) start out at next (shownFrom lines s 0 (leapsOf s)) (shownFrom lines s from (drop i (leapsOf s)))
+
+pub begin : (lines : Bool) (s : Schedule) (out : List ℕ) (at : ℕ) → wellFormed s ≡ true → length (s .leaps) ≡ 256 → Going lines s out out at at 0 0
+begin lines s out at w full = record { well = w; full = full; inside = omega arith; gaps = parts s w .gaps; left = none-yet out at _ }
+
+-- with each leap fewer are left
+pub fewer : {i n : ℕ} → i < n → n - (i + 1) < n - i
+fewer h = omega arith
+
+module _ {lines : Bool} {s : Schedule} {start out : List ℕ} {at next from i : ℕ} (g : Going lines s start out at next from i) where
+  many : length (leapsOf s) ≡ s .count
+  many = used s (g .full) i (parts s (g .well) .room)
+
+  -- the stretch starts before the expiry
+  pub before-expiry : from < s .expiry
+  before-expiry = before-end (drop i (leapsOf s)) from (s .expiry) (g .gaps)
+
+  module _ (h : i < s .count) where
+    pub in-places : i < 256
+    in-places = omega (arith, parts s (g .well) .room)
+
+    in-leaps : i < length (leapsOf s)
+    in-leaps = omega (arith, many)
+
+    here : gapsFit from (getD (s .leaps) i noLeap ∷ drop (i + 1) (leapsOf s)) (s .expiry) ≡ true
+    here = rw (in-use s i in-leaps) at (g .gaps)
+
+    after : gapsFit (monthAt s i) (drop (i + 1) (leapsOf s)) (s .expiry) ≡ true
+    after = later from (getD (s .leaps) i noLeap) (drop (i + 1) (leapsOf s)) (s .expiry) here
+
+    -- the leap's month is later than the stretch's first, and no later than the expiry
+    pub next-month : (from < monthAt s i) × (monthAt s i ≤ s .expiry)
+    next-month = (
+      fits-lt from (monthAt s i) (first from (getD (s .leaps) i noLeap) (drop (i + 1) (leapsOf s)) (s .expiry) here),
+      omega (arith, before-end (drop (i + 1) (leapsOf s)) (monthAt s i) (s .expiry) after),
+    )
+
+    -- the stretch up to the leap, and what stands after it
+    pub go-on : {out′ out″ : List ℕ} {next′ next″ : ℕ} → PutsUpTo 75 out out′ next next′ (stretch s from (monthAt s i)) → PutsUpTo 2 out′ out″ next′ next″ (between lines)
+        → Going lines s start out″ at next″ (monthAt s i) (i + 1)
+    go-on p q =
+        record {
+          well = g .well;
+          full = g .full;
+          inside = omega arith;
+          gaps = after;
+          left = more (g .left) (up-to {most = 77} p q refl (omega arith)) (next-shown lines s from i in-leaps) (omega arith);
+        }
+
+  -- after the last leap: the last stretch, and what stands after it
+  pub ended : s .count ≤ i → {out′ : List ℕ} {next′ : ℕ} → PutsUpTo 111 out out′ next next′ (shownFrom lines s from [])
+      → PutsUpTo 20000 start out′ at next′ (shownFrom lines s 0 (leapsOf s))
+  ended h {out′} {next′} p =
+      let over : length (leapsOf s) ≤ i = omega (arith, many) in
+      let rest : PutsUpTo 111 out out′ next next′ (shownFrom lines s from (drop i (leapsOf s))) = rw (last-shown lines s from i over) p in
+      all (g .left) rest (omega (arith, parts s (g .well) .room, g .inside))

@@ -1,0 +1,41 @@
+-- `show::put_last` meets its contract. Assumes nothing.
+use borrow.Author.Needs.{needs}
+use native.Mathlib.Omega.{arith}
+use mathlib.Core.Path.{refl}
+use Rattle.schedule.proofs.Gaps.{parts}
+use Rattle.format.proofs.Putting.{up-to, text-put}
+use Rattle.show.specs.Show.{stretches}
+use Rattle.show.specs.Inner.{shownFrom}
+use Rattle.show.proofs.put_last.Statement.{statement}
+use Rattle.show.proofs.put_last.Tie as tie
+
+cast-expiry : tie.Need-cast-expiry
+cast-expiry c =
+    let args = c .before .before .args in
+    let pre = c .before .before .pre in
+    omega (arith, parts (args .s) (pre .0) .end)
+
+returns : tie.Need-returns
+unfolding shownFrom stretches
+returns c =
+    let put-all = c .before .before .put-all in
+    let put-date = c .before .before .before .before .before .before .before .put-date in
+    let put-between = c .before .before .before .before .before .before .before .before .before .before .before .put-between in
+    let put-stretch = c .before .before .before .before .before .before .before .before .before .before .before .before .before .before .before .put-stretch in
+    let the-text = text-put {most = 8} (put-all .ensures) refl (omega arith) in
+    let from-date = up-to {most = 34} (put-date .ensures) the-text refl (omega arith) in
+    let from-between = up-to {most = 36} (put-between .ensures) from-date refl (omega arith) in
+    up-to (put-stretch .ensures) from-between refl (omega arith)
+
+pub put-last-spec : {M : Type 1} → statement M
+put-last-spec =
+    tie.close
+    (tie.spec
+    cast-expiry
+    (λ c κs. search needs)
+    (λ c κs. search needs)
+    (λ c κs. search needs)
+    (λ c. search needs)
+    (λ c κs. search needs)
+    (λ c. search needs)
+    returns)

@@ -1,0 +1,14 @@
+-- What only the contracts of private functions say. No promise to a caller rests on reading this file.
+-- Assumes nothing: these are definitions.
+use Prim.Native.Nat.{ℕ}
+use mathlib.Core.Bool.{Bool}
+use mathlib.Core.List.{List, _++_}
+use Rattle.format.specs.Ascii.{ascii}
+use Rattle.schedule.specs.declared.Leap.{Leap}
+use Rattle.schedule.specs.declared.Schedule.{Schedule}
+use Rattle.line.specs.Refusal.{between}
+use Rattle.show.specs.Show.{firstDate, stretches}
+
+-- what is shown of a well-formed schedule from a month on, with the leaps after it: the stretches, and then the first day from which DTAI is unknown
+unfoldable pub shownFrom : Bool → Schedule → ℕ → List Leap → List ℕ
+shownFrom lines s from ls = stretches lines s from ls ++ (between lines ++ (firstDate (s .expiry) ++ ascii " unknown"))
