@@ -36,11 +36,11 @@ not-last p mark bytes =
       | no h ↦ rw (more-parts mark bytes (omega arith))
     ]
 
-no-line : (bytes : List ℕ) → length bytes ≤ length (firstPart newline bytes) → linesOf bytes ≡ []
+pub no-line : (bytes : List ℕ) → length bytes ≤ length (firstPart newline bytes) → linesOf bytes ≡ []
 unfolding linesOf
 no-line bytes h = rw (last-part newline bytes h)
 
-first-line : (bytes : List ℕ) (n : ℕ) → n ≡ length (firstPart newline bytes) → n < length bytes → linesOf bytes ≡ take n bytes ∷ linesOf (drop (n + 1) bytes)
+pub first-line : (bytes : List ℕ) (n : ℕ) → n ≡ length (firstPart newline bytes) → n < length bytes → linesOf bytes ≡ take n bytes ∷ linesOf (drop (n + 1) bytes)
 unfolding linesOf
 first-line bytes n e h = rw e (ap butLast (more-parts newline bytes (omega arith)) ∙ not-last (take (length (firstPart newline bytes)) bytes) newline (drop (length (firstPart newline bytes) + 1) bytes))
 
@@ -65,7 +65,7 @@ none-left : (room : ℕ) → answered room [] ≡ []
 unfolding answered
 none-left room = refl
 
-one-more : (room : ℕ) (l : List ℕ) (ls : List (List ℕ)) → maxAnswer < room → answered room (l ∷ ls) ≡ l ∷ answered (room - length (answerLine l)) ls
+pub one-more : (room : ℕ) (l : List ℕ) (ls : List (List ℕ)) → maxAnswer < room → answered room (l ∷ ls) ≡ l ∷ answered (room - length (answerLine l)) ls
 unfolding answered
 one-more room l ls h = simp (lt-ltb maxAnswer room h)
 

@@ -3,3 +3,4 @@ mod Others
 mod Fields
 mod Unhexed
 mod Going
+pub mod Streams
