@@ -7,6 +7,11 @@ source "$(dirname "${BASH_SOURCE[0]}")/common.bash"
 current='6+6+12+12+12+12+12+12+12+18+12+12+24+30+24+12+18+12+12+18+18+18+84+36+42+36+18+125?'
 table=/usr/share/zoneinfo/leap-seconds.list
 
+cd "$root"
+quietly "rt check leapsec" rt check leapsec
+[ "$(target/bin/leapsec text "$(target/bin/leapsec nybbles current)")" = "$current" ] || fail "the list of the program is another one"
+ok "the list that the program has built in is the one compared here"
+
 # installed PACKAGE: installs it if this is root on Debian and apt-get can.
 updated=
 installed() {

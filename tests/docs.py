@@ -1,7 +1,9 @@
-"""Runs the commands of the documents and compares what they print.
+"""Runs the commands of the documents and compares what they print, and follows their links within the repository.
 
 A block that starts with ```console holds commands, each behind `$ `, and after each what it prints. Usage: docs.py FILE..
 """
+import pathlib
+import re
 import subprocess
 import sys
 
@@ -24,14 +26,42 @@ def blocks(path):
             expected.append(row)
 
 
-for path in sys.argv[1:]:
-    found = 0
+def anchors(path):
+    """The names by which a document's headings are linked to."""
+    headings = re.findall(r"^#+ (.*)$", path.read_text(encoding="utf-8"), re.MULTILINE)
+    return {re.sub(r"[^\w\- ]", "", heading.lower()).replace(" ", "-") for heading in headings}
+
+
+def links(path):
+    """The number of a document's links, each of which must lead to a file, and to a heading if it names one."""
+    targets = re.findall(r"\]\(([^)]+)\)", path.read_text(encoding="utf-8"))
+    for target in targets:
+        name, _, anchor = target.partition("#")
+        file = path.parent / name if name else path
+        if not file.exists() or (anchor and anchor not in anchors(file)):
+            sys.exit(f"{path}: the link {target} leads nowhere")
+    return len(targets)
+
+
+def commands(path):
+    """Runs the commands of a document."""
     for number, command, expected in blocks(path):
         run = subprocess.run(["bash", "-c", command], capture_output=True, text=True)
         printed = run.stdout.rstrip("\n").split("\n") if run.stdout else []
         if printed != expected:
             sys.exit(f"{path}:{number}: {command}\n expected {expected}\n printed  {printed}\n{run.stderr}")
-        print(f"ok {path}:{number} prints what it shows")
-        found += 1
-    if found == 0:
-        sys.exit(f"{path} has no command to run")
+        yield f"ok {path}:{number} prints what it shows"
+
+
+def main():
+    for path in map(pathlib.Path, sys.argv[1:]):
+        said = list(commands(path))
+        if not said:
+            sys.exit(f"{path} has no command to run")
+        print(*said, sep="\n")
+        count = links(path)
+        if count:
+            print(f"ok {path}: its {count} links lead somewhere")
+
+
+main()

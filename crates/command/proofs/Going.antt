@@ -29,7 +29,7 @@ first-inside mark (b ∷ bs) =
     by-bool (eqb b mark) (λ e. simp e (omega arith)) (λ e. simp e (omega arith))
 
 -- a part before others is not the last one
-not-last : (p : List ℕ) (mark : ℕ) (bytes : List ℕ) → butLast (p ∷ parts mark bytes) ≡ p ∷ butLast (parts mark bytes)
+pub not-last : (p : List ℕ) (mark : ℕ) (bytes : List ℕ) → butLast (p ∷ parts mark bytes) ≡ p ∷ butLast (parts mark bytes)
 not-last p mark bytes =
     elim (decLe (length bytes) (length (firstPart mark bytes))) [
       | yes h ↦ rw (last-part mark bytes h)

@@ -3,4 +3,6 @@ mod Others
 mod Fields
 mod Unhexed
 mod Going
+mod Unbroken
 pub mod Streams
+pub mod OneLine

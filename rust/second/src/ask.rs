@@ -14,6 +14,9 @@
 //!
 //! A refusal is `!` and its number, and for a list that does not read also a
 //! space and the place. What is no question gets a line that starts with `?`.
+//!
+//! The fields of a line are what stands between its single spaces; an empty
+//! one is a field too. So `show ` asks about the empty list, which ends early.
 
 use std::collections::HashMap;
 use std::io::{self, BufRead, BufReader, BufWriter, Read, Write};
@@ -27,6 +30,9 @@ use crate::{nybbles, text};
 /// The list behind the word `current`.
 pub const CURRENT: &[u8] =
     b"6+6+12+12+12+12+12+12+12+18+12+12+24+30+24+12+18+12+12+18+18+18+84+36+42+36+18+125?";
+
+/// A longer line is no question.
+pub const LONGEST_LINE: usize = 8_192;
 
 /// How many lists are kept prepared at a time.
 const KEPT: usize = 256;
@@ -181,15 +187,18 @@ impl Desk {
         })
     }
 
-    /// The one answer line, without its newline, to a question line.
-    pub fn line(&mut self, line: &[u8]) -> String {
+    /// The answer to a question line, given without its newline.
+    pub fn question(&mut self, line: &[u8]) -> Reply {
+        if line.len() > LONGEST_LINE {
+            return Reply::NoQuestion;
+        }
         let fields: Vec<&[u8]> = line.split(|&b| b == b' ').collect();
-        let reply = if fields.iter().any(|f| f.is_empty()) {
-            Reply::NoQuestion
-        } else {
-            self.reply(&fields)
-        };
-        match reply {
+        self.reply(&fields)
+    }
+
+    /// That answer as one line.
+    pub fn line(&mut self, line: &[u8]) -> String {
+        match self.question(line) {
             Reply::Answer(lines) => lines.join("; "),
             Reply::Refused(line) => line,
             Reply::NoQuestion => "? no question".to_string(),

@@ -41,12 +41,44 @@ fn refusals() {
 }
 
 #[test]
+fn empty_fields() {
+    assert_eq!(line("show "), "!1 0");
+    assert_eq!(line("nybbles "), "!1 0");
+    assert_eq!(line("text "), "!1 0");
+    assert_eq!(line("dtai  41317"), "!1 0");
+    assert_eq!(line("uts  41317 0"), "!1 0");
+    for q in [
+        "dtai 5? ",
+        "dtai  ",
+        "tai 5?  0",
+        "tai 5? 41317 ",
+        "show  ",
+        "text  ",
+    ] {
+        assert!(line(q).starts_with('?'), "{q:?}");
+    }
+}
+
+#[test]
+fn long_lines() {
+    let padded = |size: usize| format!("dtai 5? {}41317", "0".repeat(size - 13));
+    assert_eq!(padded(8_192).len(), 8_192);
+    assert_eq!(line(&padded(8_191)), "10");
+    assert_eq!(line(&padded(8_192)), "10");
+    assert!(line(&padded(8_193)).starts_with('?'));
+    assert!(line(&padded(100_000)).starts_with('?'));
+    let text = |size: usize| format!("text {}", "0".repeat(size - 5));
+    assert_eq!(line(&text(8_191)), "!5 256");
+    assert!(line(&text(8_192)).starts_with('?')); // an odd number of digits
+    assert!(line(&text(8_193)).starts_with('?'));
+}
+
+#[test]
 fn no_questions() {
     for q in [
         "",
         " ",
         "show",
-        "show ",
         " show 5?",
         "show  5?",
         "show 5? ",

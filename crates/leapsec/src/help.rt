@@ -1,0 +1,170 @@
+// The help texts. A test runs every example in them.
+use crate::output::write;
+use format::parts::same;
+use line::words::Word;
+use line::words::word_of;
+
+// Writes what the program answers.
+pub(crate) fn print() {
+    write(
+        b"Answers questions about leap seconds, under a list of them.\n\
+\n\
+leapsec show LIST                DTAI from which day to which, and from when it is unknown\n\
+leapsec nybbles LIST             the list as nybbles, in hex\n\
+leapsec text HEX                 a nybble list, in hex, as text\n\
+leapsec dtai LIST MJD            TAI minus UTC on a day, in seconds\n\
+leapsec tai LIST MJD MICROS      UTC to TAI\n\
+leapsec utc LIST TAI             TAI to UTC: MJD MICROS\n\
+leapsec uts LIST MJD MICROS      UTC to smoothed time: NANOS\n\
+leapsec unsmooth LIST MJD NANOS  smoothed time to UTC: MICROS\n\
+leapsec ask                      a question a line from standard input, an answer a line\n\
+leapsec help WORD                more about one of these words, with an example\n\
+\n\
+LIST    a compact text list such as '6+5?', or the word current\n\
+HEX     a nybble list, two hex digits a byte\n\
+MJD     a Modified Julian Day: 41317 is 1 January 1972\n\
+MICROS  microseconds of a UTC day\n\
+NANOS   nanoseconds of a smoothed day, which always has 86,400 seconds\n\
+TAI     microseconds from 1972-01-01 00:00:00 TAI\n\
+\n\
+What is no question is answered by ? and what was expected, a refused one by ! and a number,\n\
+and where a list does not read also the place in it:\n\
+1 list ends early            4 past month 2400          8 before 1972\n\
+2 byte not allowed there     5 more than 256 leaps      9 no such instant\n\
+3 gap malformed or over 999  6 something after the end  10 expired or not yet known\n",
+    );
+}
+
+fn print_show() {
+    write(
+        b"leapsec show LIST\n\
+A line for each stretch of days with one DTAI: its first day, its last day and DTAI.\n\
+Then the day from which on DTAI is unknown.\n\
+\n\
+$ leapsec show '6+5?'\n\
+1972-01-01 1972-06-30 +10\n\
+1972-07-01 1972-11-30 +11\n\
+1972-12-01 unknown\n",
+    );
+}
+
+fn print_nybbles() {
+    write(
+        b"leapsec nybbles LIST\n\
+The list as nybbles, in hex, in the one spelling of the writer.\n\
+\n\
+$ leapsec nybbles '6+5?'\n\
+90f4\n",
+    );
+}
+
+fn print_text() {
+    write(
+        b"leapsec text HEX\n\
+A nybble list as text. Hex digits of either case are read, and every spelling of a list.\n\
+\n\
+$ leapsec text 0F\n\
+6+5?\n",
+    );
+}
+
+fn print_dtai() {
+    write(
+        b"leapsec dtai LIST MJD\n\
+TAI minus UTC on a day, in seconds.\n\
+\n\
+$ leapsec dtai current 57754\n\
+37\n",
+    );
+}
+
+fn print_tai() {
+    write(
+        b"leapsec tai LIST MJD MICROS\n\
+The TAI of an instant of UTC, in microseconds from 1972-01-01 00:00:00 TAI.\n\
+\n\
+$ leapsec tai '6+5?' 41498 86400000000\n\
+15724810000000\n",
+    );
+}
+
+fn print_utc() {
+    write(
+        b"leapsec utc LIST TAI\n\
+The instant of UTC that has this TAI: the day and the microseconds of it.\n\
+\n\
+$ leapsec utc '6+5?' 15724810000000\n\
+41498 86400000000\n",
+    );
+}
+
+fn print_uts() {
+    write(
+        b"leapsec uts LIST MJD MICROS\n\
+The smoothed time of an instant of UTC, in nanoseconds of the day.\n\
+\n\
+$ leapsec uts '6+5?' 41498 86400000000\n\
+86399001000000\n",
+    );
+}
+
+fn print_unsmooth() {
+    write(
+        b"leapsec unsmooth LIST MJD NANOS\n\
+The microseconds of the UTC day at a smoothed time: the greatest whose smoothed time is not above it.\n\
+\n\
+$ leapsec unsmooth '6+5?' 41498 86399001000000\n\
+86400000000\n",
+    );
+}
+
+fn print_ask() {
+    write(
+        b"leapsec ask\n\
+Answers the questions on standard input, one a line, by one line each. Between the lines of show stands `; `.\n\
+\n\
+$ printf 'dtai current 57753\\nshow 5?\\n' | leapsec ask\n\
+36\n\
+1972-01-01 1972-05-31 +10; 1972-06-01 unknown\n",
+    );
+}
+
+fn print_help() {
+    write(
+        b"leapsec help WORD\n\
+More about a word: show, nybbles, text, dtai, tai, utc, uts, unsmooth, ask or help. Without one, all of them.\n\
+\n\
+$ leapsec help utc | head -n 1\n\
+leapsec utc LIST TAI\n",
+    );
+}
+
+// Writes what a word of the program's own does, or what was expected.
+fn print_own(word: &[u8]) {
+    if same(word, b"ask") {
+        print_ask();
+        return;
+    }
+    if same(word, b"help") {
+        print_help();
+        return;
+    }
+    write(
+        b"? expected: help WORD, WORD being show, nybbles, text, dtai, tai, utc, uts, unsmooth, ask or help\n",
+    );
+}
+
+// Writes what a word asks, with an example.
+pub(crate) fn print_word(word: &[u8]) {
+    match word_of(word) {
+        Word::Show => print_show(),
+        Word::Nybbles => print_nybbles(),
+        Word::Text => print_text(),
+        Word::Dtai => print_dtai(),
+        Word::Tai => print_tai(),
+        Word::Utc => print_utc(),
+        Word::Uts => print_uts(),
+        Word::Unsmooth => print_unsmooth(),
+        Word::Other => print_own(word),
+    }
+}
