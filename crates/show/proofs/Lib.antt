@@ -1,3 +1,4 @@
--- The laws that the proofs of this crate cite.
+-- The laws of the crate.
 mod Known
 mod Going
+pub mod Days

@@ -3,6 +3,7 @@
 use Prim.Native.Nat.{ℕ, _+_, _-_, _%_}
 use mathlib.Core.Bool.{Bool, cond}
 use mathlib.Core.List.{List, [], _∷_, _++_}
+use lib.IntN.{ℤ}
 use Rattle.refusals.specs.Refusals.{notWellFormed}
 use Rattle.format.specs.Ascii.{ascii, minusByte}
 use Rattle.format.specs.Decimal.{decimal, pair, withSign}
@@ -25,9 +26,13 @@ firstDate m = date m 1
 abbrev pub lastDate : ℕ → List ℕ
 lastDate m = date (m - 1) (daysInMonth (m - 1))
 
--- the stretch from the first day of a month to the day before another starts: its first day, its last day, and DTAI on its first day
+-- DTAI of the stretch that starts with a month: that of its first day, and so of all its days (`every-day`)
+abbrev pub dtaiFrom : Schedule → ℕ → ℤ
+dtaiFrom s from = dtai s (monthStart from)
+
+-- the stretch from the first day of a month to the day before another starts: its first day, its last day, and its DTAI
 unfoldable pub stretch : Schedule → ℕ → ℕ → List ℕ
-stretch s from to = firstDate from ++ (spaceByte ∷ lastDate to ++ (spaceByte ∷ withSign (dtai s (monthStart from))))
+stretch s from to = firstDate from ++ (spaceByte ∷ lastDate to ++ (spaceByte ∷ withSign (dtaiFrom s from)))
 
 -- the stretches from a month on: DTAI changes at each leap's month, and is known up to the expiry
 unfoldable pub stretches : Bool → Schedule → ℕ → List Leap → List ℕ

@@ -4,10 +4,9 @@ ghost use mathlib.Core.Bool.{true};
 ghost use mathlib.Core.List.{[]};
 ghost use Prim.Native.Nat.{_≤_, _<_};
 ghost use Rattle.format.specs.Output.{PutsUpTo};
-ghost use Rattle.calendar.specs.Calendar.{monthStart, daysInMonth, lastMonth};
+ghost use Rattle.calendar.specs.Calendar.{daysInMonth, lastMonth};
 ghost use Rattle.schedule.specs.Schedule.{leapsOf, wellFormed};
-ghost use Rattle.clock.specs.Days.{dtai};
-ghost use Rattle.show.specs.Show.{date, stretch, shown};
+ghost use Rattle.show.specs.Show.{date, dtaiFrom, stretch, shown};
 ghost use Rattle.show.specs.Inner.{shownFrom};
 use clock::DtaiAnswer;
 use format::decimal::put_decimal;
@@ -44,7 +43,7 @@ fn days_in(month: u16) -> u64
 // DTAI on the first day of a month that is known.
 fn dtai_from(s: Schedule, month: u16) -> i32
     requires { ⌜ (wellFormed s ≡ true) × (month < s .expiry) ⌝ }
-    ensures { λ r. ⌜ r ≡ dtai s (monthStart month) ⌝ }
+    ensures { λ r. ⌜ r ≡ dtaiFrom s month ⌝ }
 {
     let a = clock::dtai(s, calendar::first_day(month));
     match a {
