@@ -1,4 +1,4 @@
-// Answers about the list that a field names: what it says, and the same list as nybbles.
+// The list that a field names, and the same list as nybbles.
 ghost use mathlib.Core.Path.{_≡_};
 ghost use mathlib.Core.Bool.{true};
 ghost use Rattle.format.specs.Output.{PutsUpTo};
@@ -6,8 +6,7 @@ ghost use Rattle.format.specs.Hex.{hex};
 ghost use Rattle.schedule.specs.Schedule.{wellFormed};
 ghost use Rattle.text.specs.Read.{readText};
 ghost use Rattle.nybbles.specs.Write.{nybblesOf};
-ghost use Rattle.show.specs.Show.{shown};
-ghost use Rattle.answers.specs.Lists.{listOf, aboutList, nybblesAnswer};
+ghost use Rattle.answers.specs.Lists.{listOf, nybblesAnswer};
 use format::hex::put_hex;
 use format::parts::same;
 use line::refusal::put_refusal_at;
@@ -24,19 +23,6 @@ pub fn read_list(field: &[u8]) -> Reading
         );
     }
     text::read_text(field)
-}
-
-// Puts the answer about a list as its stretches of constant DTAI.
-pub fn put_list_shown(out: &mut [u8], at: usize, lines: bool, list: &[u8]) -> usize
-    ensures { λ r. ⌜ PutsUpTo 20000 (now (out .entry)) (now (out .exit)) at r (aboutList (now (list .entry)) (shown lines)) ⌝ }
-{
-    let r = read_list(list);
-    let number = r.number;
-    if number != 0 {
-        return put_refusal_at(out, at, number, r.place);
-    }
-    let s = r.schedule;
-    show::put_shown(out, at, lines, s)
 }
 
 // Puts a schedule as nybbles, in hex.

@@ -9,7 +9,7 @@ ghost use Rattle.command.specs.Lines.{linesOf, answered, LinesAnswered};
 ghost use mathlib.Core.Bool.{Bool};
 ghost use mathlib.Core.List.{_∷_};
 
-mod hexes; // hexes.rt: answers about a nybble list in hex
+mod lists; // lists.rt: a list as its stretches, and a nybble list as text
 
 use answers::times::Asked;
 use answers::times::put_asked;
@@ -25,10 +25,10 @@ use line::words::Word;
 use line::words::put_expected;
 use line::words::word_of;
 
-// A question line has at most 8,192 bytes,
-const MAX_LINE: usize = 8192;
+// The most bytes of a question line.
+pub const MAX_LINE: usize = 8192;
 
-// and no answer is longer than this.
+// No answer is longer than this.
 const MAX_ANSWER: usize = 20_000;
 
 // How much of an input was used, and how much of an output written.
@@ -43,9 +43,9 @@ fn put_with_one(out: &mut [u8], at: usize, lines: bool, word: Word, x: &[u8]) ->
     ensures { λ r. ⌜ PutsUpTo maxAnswer (now (out .entry)) (now (out .exit)) at r (withOne lines word (now (x .entry))) ⌝ }
 {
     match word {
-        Word::Show => answers::lists::put_list_shown(out, at, lines, x),
+        Word::Show => lists::put_list_shown(out, at, lines, x),
         Word::Nybbles => answers::lists::put_list_nybbles(out, at, x),
-        Word::Text => hexes::put_text_answer(out, at, x),
+        Word::Text => lists::put_text_answer(out, at, x),
         _ => put_expected(out, at, word),
     }
 }

@@ -126,6 +126,14 @@ all-digits (suc k) n h =
     (λ a. let b : 10 ≤ n = ltb-false n 10 a in
     simp a (digits-append (digitsIn k (n / 10)) (digit (n % 10)) (all-digits k (n / 10) (omega arith)) (digit-is (n % 10) (omega arith))))
 
+pub value-of : (n : ℕ) → valueAfter 0 (decimal n) ≡ n
+unfolding decimal
+value-of n = value-back (suc n) n (omega arith)
+
+pub are-digits : (n : ℕ) → allDigits (decimal n) ≡ true
+unfolding decimal
+are-digits n = all-digits (suc n) n (omega arith)
+
 pub some-digit : (n : ℕ) → length (decimal n) ≡ 0 → ⊥
 some-digit n =
     by-bool (ltb n 10) (λ a z. omega (arith, ap length (small n (ltb-true n 10 a))))
@@ -133,7 +141,5 @@ some-digit n =
 
 -- a number up to 2^64 - 1 is read back from its digits
 pub decimal-back : (n : ℕ) → n ≤ maxNumber → numberOf (decimal n) ≡ Given n
-unfolding decimal numberAfter
-decimal-back n h =
-    begins (decimal n) (some-digit n)
-    ∙ simp (all-digits (suc n) n (omega arith), value-back (suc n) n (omega arith), le-leb n maxNumber h)
+unfolding numberAfter
+decimal-back n h = begins (decimal n) (some-digit n) ∙ simp (are-digits n, value-of n, le-leb n maxNumber h)

@@ -5,5 +5,6 @@ pub mod Bytes
 pub mod Putting
 pub mod Digits
 pub mod Signs
+pub mod Integers
 pub mod Halves
 pub mod Splitting

@@ -3,8 +3,8 @@
 use Prim.Native.Nat.{ℕ, zero, suc, _+_, _-_, _*_, _/_, _%_, _^_}
 use mathlib.Core.Bool.{Bool, true, false, not, cond, _&&_}
 use mathlib.Core.List.{List, [], _∷_, _++_}
-use lib.Dec.{ltb, leb}
-use lib.IntN.{ℤ, pos, negsuc}
+use lib.Dec.{ltb, leb, eqb}
+use lib.IntN.{ℤ, pos, negsuc, negℤ}
 use Rattle.format.specs.Ascii.{within, zeroByte, nineByte, plusByte, minusByte}
 use Rattle.format.specs.declared.decimal.Number.{Number}
 use Rattle.format.specs.declared.decimal.Number.the-variants.{Given, Missing}
@@ -48,6 +48,13 @@ allDigits (b ∷ bs) = isDigit b && allDigits bs
 unfoldable pub valueAfter : ℕ → List ℕ → ℕ
 valueAfter n [] = n
 valueAfter n (b ∷ bs) = valueAfter (n * 10 + (b - zeroByte)) bs
+
+-- the integer that bytes mean: a `-` stands before the digits of one below zero, and a `+` or nothing before others
+unfoldable pub integerOf : List ℕ → ℤ
+integerOf [] = pos 0
+integerOf (b ∷ bs) =
+    cond (eqb b minusByte) (negℤ (pos (valueAfter 0 bs)))
+    (cond (eqb b plusByte) (pos (valueAfter 0 bs)) (pos (valueAfter 0 (b ∷ bs))))
 
 abbrev pub isEmpty : List ℕ → Bool
 isEmpty [] = true

@@ -1,4 +1,4 @@
--- `command::hexes::put_text_answer` meets its contract: the field is no hex, or a list that is refused, or one that is put as text. Assumes nothing.
+-- `command::lists::put_text_answer` meets its contract: the field is no hex, or a list that is refused, or one that is put as text. Assumes nothing.
 use borrow.Author.Needs.{needs}
 use borrow.Author.Tests.{not-true, not-false}
 use native.Mathlib.Omega.{arith}
@@ -8,8 +8,8 @@ use Rattle.format.specs.Hex.{unhex}
 use Rattle.nybbles.proofs.Sound.{accepted-well-formed}
 use Rattle.command.specs.Answer.{textAnswer}
 use Rattle.answers.proofs.Taken.{read-refused, read-taken}
-use Rattle.command.proofs.hexes.put_text_answer.Statement.{statement}
-use Rattle.command.proofs.hexes.put_text_answer.Tie as tie
+use Rattle.command.proofs.lists.put_text_answer.Statement.{statement}
+use Rattle.command.proofs.lists.put_text_answer.Tie as tie
 
 returns : tie.Need-returns
 unfolding textAnswer

@@ -1,4 +1,4 @@
-// Answers about a nybble list that a field has in hex.
+// Answers about a list as its stretches of constant DTAI, and about a nybble list, in hex, as text.
 ghost use mathlib.Core.Path.{_≡_};
 ghost use mathlib.Core.Bool.{true};
 ghost use Prim.Native.Nat.{_≤_};
@@ -8,7 +8,10 @@ ghost use Rattle.format.specs.Hex.{unhex};
 ghost use Rattle.schedule.specs.Schedule.{wellFormed};
 ghost use Rattle.text.specs.Write.{textOf};
 ghost use Rattle.nybbles.specs.Read.{readNybbles};
-ghost use Rattle.command.specs.Answer.{maxLine, textAnswer};
+ghost use Rattle.show.specs.Show.{shown};
+ghost use Rattle.answers.specs.Lists.{aboutList};
+ghost use Rattle.command.specs.Answer.{maxLine, maxAnswer, textAnswer};
+use answers::lists::read_list;
 use format::hex::is_hex;
 use format::hex::put_unhex;
 use format::output::put_all;
@@ -17,6 +20,19 @@ use line::words::Word;
 use line::words::put_expected;
 use schedule::Reading;
 use schedule::Schedule;
+
+// Puts the answer about a list as its stretches of constant DTAI.
+pub(crate) fn put_list_shown(out: &mut [u8], at: usize, lines: bool, list: &[u8]) -> usize
+    ensures { λ r. ⌜ PutsUpTo maxAnswer (now (out .entry)) (now (out .exit)) at r (aboutList (now (list .entry)) (shown lines)) ⌝ }
+{
+    let r = read_list(list);
+    let number = r.number;
+    if number != 0 {
+        return put_refusal_at(out, at, number, r.place);
+    }
+    let s = r.schedule;
+    show::put_shown(out, at, lines, s)
+}
 
 // Puts a schedule as text.
 fn put_text(out: &mut [u8], at: usize, s: Schedule) -> usize

@@ -1,4 +1,4 @@
--- `command::hexes::read_hex` meets its contract: 4,096 bytes are room enough for a line of hex. Assumes nothing.
+-- `command::lists::read_hex` meets its contract: 4,096 bytes are room enough for a line of hex. Assumes nothing.
 use borrow.Author.Needs.{needs}
 use native.Mathlib.Omega.{arith}
 use mathlib.Core.Path.{_≡_, sym, ap, _∙_}
@@ -8,8 +8,8 @@ use Rattle.format.specs.Hex.{unhex}
 use Rattle.format.proofs.Putting.{whole, same-long}
 use Rattle.nybbles.specs.Read.{readNybbles}
 use Rattle.command.proofs.Unhexed.{unhex-length}
-use Rattle.command.proofs.hexes.read_hex.Statement.{statement}
-use Rattle.command.proofs.hexes.read_hex.Tie as tie
+use Rattle.command.proofs.lists.read_hex.Statement.{statement}
+use Rattle.command.proofs.lists.read_hex.Tie as tie
 
 array-share-prefix-bytes : tie.Need-array-share-prefix-bytes
 array-share-prefix-bytes c =

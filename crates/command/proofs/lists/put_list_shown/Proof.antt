@@ -1,10 +1,10 @@
--- `answers::lists::put_list_shown` meets its contract: the list is refused, or it is shown. Assumes nothing.
+-- `command::lists::put_list_shown` meets its contract: the list is refused, or it is shown. Assumes nothing.
 use borrow.Author.Needs.{needs}
 use native.Mathlib.Omega.{arith}
 use Rattle.format.proofs.Putting.{few}
 use Rattle.answers.proofs.Taken.{read-refused, read-taken}
-use Rattle.answers.proofs.lists.put_list_shown.Statement.{statement}
-use Rattle.answers.proofs.lists.put_list_shown.Tie as tie
+use Rattle.command.proofs.lists.put_list_shown.Statement.{statement}
+use Rattle.command.proofs.lists.put_list_shown.Tie as tie
 
 returns : tie.Need-returns
 returns c =

@@ -1,4 +1,4 @@
--- `command::hexes::put_text` meets its contract: 1,028 bytes are room enough for the text. Assumes nothing.
+-- `command::lists::put_text` meets its contract: 1,028 bytes are room enough for the text. Assumes nothing.
 use borrow.Author.Needs.{needs}
 use native.Mathlib.Omega.{arith}
 use mathlib.Core.Path.{sym, ap}
@@ -9,8 +9,8 @@ use Rattle.format.proofs.Putting.{text-put}
 use Rattle.text.specs.Write.{textOf}
 use Rattle.text.proofs.Room.{at-most}
 use Rattle.answers.proofs.Held.{inside, holds, all-held}
-use Rattle.command.proofs.hexes.put_text.Statement.{statement}
-use Rattle.command.proofs.hexes.put_text.Tie as tie
+use Rattle.command.proofs.lists.put_text.Statement.{statement}
+use Rattle.command.proofs.lists.put_text.Tie as tie
 
 -- the room that is lent
 abbrev lent : List ℕ
