@@ -199,7 +199,9 @@ def read_failures(leapsec):
     os.close(slave)
     if not select.select([run.stdout], [], [], 10)[0]:
         sys.exit("FAILED a line from a terminal is not answered")
-    while pathlib.Path(f"/proc/{run.pid}/stat").read_text().rsplit(")", 1)[1].split()[0] != "S":
+    for _ in range(1000):
+        if pathlib.Path(f"/proc/{run.pid}/stat").read_text().rsplit(")", 1)[1].split()[0] in "SZ":
+            break
         time.sleep(0.01)
     os.close(master)
     told(run, b"5?\n", b"Input/output error")
