@@ -1,6 +1,7 @@
 """Runs the commands of the documents and compares what they print, and follows their links within the repository.
 
-A block that starts with ```console holds commands, each behind `$ `, and after each what it prints. Usage: docs.py FILE..
+A block that starts with ```console holds commands, each behind `$ `, and after each what it prints. A command must end with status 0 and write
+nothing to standard error. Usage: docs.py FILE..
 """
 import pathlib
 import re
@@ -46,10 +47,12 @@ def links(path):
 def commands(path):
     """Runs the commands of a document."""
     for number, command, expected in blocks(path):
-        run = subprocess.run(["bash", "-c", command], capture_output=True, text=True)
+        run = subprocess.run(["bash", "-o", "pipefail", "-c", command], stdin=subprocess.DEVNULL, capture_output=True, text=True)
         printed = run.stdout.rstrip("\n").split("\n") if run.stdout else []
         if printed != expected:
             sys.exit(f"{path}:{number}: {command}\n expected {expected}\n printed  {printed}\n{run.stderr}")
+        if run.stderr or run.returncode != 0:
+            sys.exit(f"{path}:{number}: {command}\n ends with status {run.returncode}, and writes to standard error: {run.stderr}")
         yield f"ok {path}:{number} prints what it shows"
 
 

@@ -3,7 +3,7 @@
     python3 tools/pictures.py            writes docs/smoothing.svg and docs/knowledge.svg
     python3 tools/pictures.py --check    writes nothing, and says of each whether it is as drawn
 
-smoothing.svg: UTS minus UTC over the last 1,100 seconds before an inserted and before a deleted second.
+smoothing.svg: UTS minus UTC over the last 1,100 seconds of a day with an inserted and of a day with a deleted second.
 knowledge.svg: what a list knows: its days, and its last day, which it knows in part.
 """
 import datetime
@@ -66,12 +66,24 @@ def panel(top, name, list_, sign, length):
     parts = [line(left, down(n), left + wide, down(n), dash="" if n == 0 else "4 4") for n in (0, sign)]
     parts += [label(left - 8, down(n) + 4, f"{n:+d} s" if n else "0", "end") for n in (0, sign)]
     start = next(second for second, offset in zip(seconds, offsets) if offset != 0) - 1
-    parts += [label(left + wide / 2, top - 16, f"before {name} second (list {list_}): smoothing starts at {clock(start)}")]
+    assert length - start == 1000, "the last 1,000 seconds"
+    parts += [label(left + wide / 2, top - 16, f"{name} second (list {list_}): smoothing takes the last 1,000 seconds, from {clock(start)}")]
     for second, words, shift in [(first, clock(first), -20), (start, clock(start), 10), (length, "00:00:00", 0)]:
         parts += [line(across(second), top, across(second), top + high, RED, "2 3")]
         parts += [label(across(second) + shift, top + high + 18, words, colour=RED)]
     points = " ".join(f"{across(second):.1f},{down(offset):.2f}" for second, offset in zip(seconds, offsets))
-    return parts + [f'<polyline points="{points}" fill="none" stroke="{BLUE}" stroke-width="2"/>']
+    parts += [f'<polyline points="{points}" fill="none" stroke="{BLUE}" stroke-width="2"/>']
+    return parts + marked(list_, across, down)
+
+
+def marked(list_, across, down):
+    """The inserted second itself, from its first microsecond to its last, or that one is left out."""
+    first, last = ask([f"uts {list_} 41498 {micros}" for micros in (86400 * 10**6, 86401 * 10**6 - 1)])
+    if first == "!9":
+        return [label(across(86399) - 8, down(0) - 8, "the second 23:59:59 is left out", "end")]
+    x, y = across(86400.5), down((int(first) + int(last)) / 2 / 10**9 - 86400.5)
+    parts = [line(x - 40, y - 74, x, y, RED), f'<circle cx="{x:.1f}" cy="{y:.1f}" r="4" fill="{RED}"/>']
+    return parts + [label(x - 10, y - 80, "23:59:60, the inserted second", "end", RED)]
 
 
 def smoothing():

@@ -11,6 +11,12 @@ use libc::STDIN_FILENO;
 // A line that is longer than 8,192 bytes is no question, whatever it has behind them. So no more is held of a line that is not complete.
 const MOST_HELD: usize = 8193;
 
+// What a read brought: how many bytes, 0 at the end of the input; or that it failed.
+struct Came {
+    count: usize,
+    failed: bool,
+}
+
 // How many bytes of an input are answered, and whether the answers could be written.
 struct Answered {
     used: usize,
@@ -23,17 +29,24 @@ struct Rest {
     goes_on: bool,
 }
 
-// Reads once, behind the bytes that are held, and returns how many bytes came: 0 at the end of the input. Where reading fails, that is said,
-// and is taken for the end.
-fn read_behind(buffer: &mut [u8], held: usize) -> usize
+// Reads once, behind the bytes that are held. Where reading fails, that is said.
+fn read_behind(buffer: &mut [u8], held: usize) -> Came
     requires { ⌜ held ≤ length (now buffer) ⌝ }
-    ensures { λ r. ⌜ held + r ≤ length (now (buffer .exit)) ⌝ }
+    ensures { λ r. ⌜ held + r .count ≤ length (now (buffer .exit)) ⌝ }
 {
     let got = libc::read(STDIN_FILENO, &mut buffer[held..]);
     if got < 0 {
         os::fail(b"leapsec: standard input");
+        return Came {
+            count: 0,
+            failed: true,
+        };
     }
-    io::count(got, &buffer[held..])
+    let count = io::count(got, &buffer[held..]);
+    Came {
+        count,
+        failed: false,
+    }
 }
 
 // Writes the answers to complete lines at the start of an input, as many as a buffer has room for. None are used where no line is complete.
@@ -95,13 +108,20 @@ fn hold(buffer: &mut [u8], from: usize, to: usize) -> usize
     held
 }
 
-// Reads once and answers the lines that are then complete; at the end of the input, the last line if it has no LF.
+// Reads once and answers the lines that are then complete; at the end of the input, the last line if it has no LF. Where reading fails, what
+// is held of a line is not answered: the rest of it is not known.
 fn turn(buffer: &mut [u8], held: usize) -> Rest
     requires { ⌜ held ≤ length (now buffer) ⌝ }
     ensures { λ r. ⌜ r .held ≤ length (now (buffer .exit)) ⌝ }
 {
     let came = read_behind(buffer, held);
-    if came == 0 {
+    if came.failed {
+        return Rest {
+            held: 0,
+            goes_on: false,
+        };
+    }
+    if came.count == 0 {
         if 0 < held {
             print_answer(&buffer[..held], false);
         }
@@ -110,7 +130,7 @@ fn turn(buffer: &mut [u8], held: usize) -> Rest
             goes_on: false,
         };
     }
-    let end = held + came;
+    let end = held + came.count;
     let done = answer_complete(&buffer[..end]);
     let goes_on = done.is_written;
     let held = hold(buffer, done.used, end);

@@ -9,9 +9,12 @@ mod output; // output.rt: standard output
 
 use crate::output::print_answer;
 use crate::output::within;
+use crate::output::write;
 use format::output::put;
 use format::parts::part_end;
 use format::parts::same;
+use line::words::Word;
+use line::words::word_of;
 
 // Puts an argument behind the start of a line and returns how long the line is then: all of it where it has no room for the argument.
 fn put_argument(line: &mut [u8], at: usize, i: usize) -> usize
@@ -39,25 +42,44 @@ fn put_arguments(line: &mut [u8], count: usize) -> usize
     within(at, line)
 }
 
-// Answers a line: a question, or a word of the program's own.
-fn run(line: &[u8]) {
-    if same(line, b"ask") {
+// Answers `ask`, by what stands behind the word: nothing may.
+fn run_ask(rest: &[u8]) {
+    if rest.len() == 0 {
         ask::ask();
         return;
     }
-    if same(line, b"help") {
+    write(b"? expected: ask\n");
+}
+
+// Answers `help`, by what stands behind the word: nothing, or a space and a word.
+fn run_help(rest: &[u8]) {
+    if rest.len() == 0 {
         help::print();
         return;
     }
-    let end = part_end(line, 0, b' ');
-    if end < line.len() {
-        if same(&line[..end], b"help") {
-            let next = end + 1;
-            help::print_word(&line[next..]);
-            return;
-        }
+    help::print_word(&rest[1..]);
+}
+
+// Answers a line whose first word is none of a question's, by that word and what stands behind it.
+fn run_own(word: &[u8], rest: &[u8]) {
+    if same(word, b"ask") {
+        run_ask(rest);
+        return;
     }
-    print_answer(line, true);
+    if same(word, b"help") {
+        run_help(rest);
+        return;
+    }
+    write(b"? expected: show, nybbles, text, dtai, tai, utc, uts, unsmooth, ask or help\n");
+}
+
+// Answers a line: a question, or a word of the program's own.
+fn run(line: &[u8]) {
+    let end = within(part_end(line, 0, b' '), line);
+    match word_of(&line[..end]) {
+        Word::Other => run_own(&line[..end], &line[end..]),
+        _ => print_answer(line, true),
+    }
 }
 
 fn main() {

@@ -1,0 +1,126 @@
+"""Tests leapsec's arguments and its help texts.
+
+Usage: arguments.py LEAPSEC SECOND
+
+A question as arguments has the answer of `ask`, with LF for `; `, and the second program's. A first word that is none is told all words.
+"""
+import re
+import subprocess
+import sys
+
+from lines import LONGEST, Lines, USAGE, expected
+
+UNKNOWN = b"? expected: show, nybbles, text, dtai, tai, utc, uts, unsmooth, ask or help\n"
+NO_HELP = b"? expected: help WORD, WORD being show, nybbles, text, dtai, tai, utc, uts, unsmooth, ask or help\n"
+TOO_LONG = expected(b"0" * (LONGEST + 1)) + b"\n"
+
+# "The eleven numbers" of 01
+NUMBERS = {
+    1: "list ends early",
+    2: "byte not allowed there",
+    3: "gap malformed or over 999",
+    4: "past month 2400",
+    5: "more than 256 leaps",
+    6: "something after the end",
+    7: "output shorter than the list",
+    8: "before 1972: MJD under 41317, or TAI under 10,000,000",
+    9: "no such instant",
+    10: "expired or not yet known",
+    11: "schedule not well formed",
+}
+NOT_GIVEN = (7, 11)  # by the program: there is room for every answer, and every list that is read is well formed
+
+
+def printed(leapsec, *words, data=b""):
+    """What leapsec prints with these arguments."""
+    run = subprocess.run([leapsec, *words], input=data, capture_output=True, timeout=60)
+    if (run.returncode, run.stderr) != (0, b""):
+        sys.exit(f"FAILED {str(words)[:100]} as arguments: status {run.returncode}, and {run.stderr!r}")
+    return run.stdout
+
+
+def questions(leapsec, second, lines):
+    """Question lines as arguments."""
+    asked = [line for line in lines if b"\0" not in line and line.split(b" ")[0] not in (b"ask", b"help")]
+    chosen = asked[:400] + [line for line in asked if len(line) > 8000]
+    unknown = 0
+    for line in chosen:
+        words = line.split(b" ")
+        got = printed(leapsec, *words)
+        if words[0] not in USAGE:
+            unknown += 1
+            wanted = UNKNOWN
+        else:
+            wanted = printed(leapsec, "ask", data=line + b"\n").replace(b"; ", b"\n")
+        if got != wanted:
+            sys.exit(f"FAILED {str(words)[:300]} as arguments: {got[:300]!r}, not {wanted[:300]!r}")
+        if not got.startswith(b"?") and got != subprocess.run([second, *words], stdout=subprocess.PIPE).stdout:
+            sys.exit(f"FAILED {str(words)[:300]} as arguments: the second program differs")
+    if unknown < 5:
+        sys.exit("FAILED too few unknown words")
+    print(f"ok {len(chosen)} lines as arguments are answered as by ask, with LF for '; ', but for {unknown} unknown words, which are told all words")
+
+
+def single(leapsec):
+    """Arguments with spaces, LF or nothing in them, words that are none, and too long ones."""
+    for words, wanted in [
+        (["show 5?"], b"1972-01-01 1972-05-31 +10\n1972-06-01 unknown\n"),
+        (["show", "5?\n"], b"!6 2\n"),
+        (["show", ""], b"!1 0\n"),
+        ([""], UNKNOWN),
+        (["--help"], UNKNOWN),
+        (["-h"], UNKNOWN),
+        (["helpp"], UNKNOWN),
+        (["asks"], UNKNOWN),
+        (["as", "k"], UNKNOWN),
+        (["show\n"], UNKNOWN),
+        (["", "show", "5?"], UNKNOWN),
+        (["ask"], b""),
+        (["ask", "x"], b"? expected: ask\n"),
+        (["ask", ""], b"? expected: ask\n"),
+        (["ask", "x" * 100_000], b"? expected: ask\n"),
+        (["dtai", "5?", "0" * (LONGEST - 5 - len("dtai 5? ")) + "41317"], b"10\n"),
+        (["dtai", "5?", "0" * (LONGEST - 4 - len("dtai 5? ")) + "41317"], TOO_LONG),
+        (["show", "x" * 100_000], TOO_LONG),
+        (["show", *["5?"] * 40_000], TOO_LONG),
+        (["x" * 65_536, "y"], UNKNOWN),
+        (["x" * 100_000, "y" * 100_000], UNKNOWN),
+    ]:
+        got = printed(leapsec, *words)
+        if got != wanted:
+            sys.exit(f"FAILED {str(words)[:100]} as arguments: {got!r}")
+    print("ok arguments with spaces, LF or nothing in them, words that are none, and too long ones")
+
+
+def helps(leapsec):
+    """The help texts against what was expected of each word, and against 01's numbers."""
+    text = printed(leapsec, "help")
+    if printed(leapsec) != text or not text:
+        sys.exit("FAILED without arguments leapsec does not print its help")
+    for word in USAGE:
+        usage = printed(leapsec, word).removeprefix(b"? expected: ")
+        head = b"leapsec " + usage
+        if printed(leapsec, "help", word).split(b"\n")[0] + b"\n" != head:
+            sys.exit(f"FAILED help {word.decode()} does not start with {head!r}")
+        if not re.search(rb"^" + re.escape(head.rstrip()) + rb"  ", text, re.MULTILINE):
+            sys.exit(f"FAILED help has no line for {head!r}")
+    print(f"ok the help of {len(USAGE)} words starts as what was expected of them")
+    columns = [re.split(" {2,}", row) for row in text.decode().splitlines()[-3:]]
+    numbers = dict(cell.split(" ", 1) for row in columns for cell in row)
+    if numbers != {str(n): meaning.partition(":")[0] for n, meaning in NUMBERS.items() if n not in NOT_GIVEN}:
+        sys.exit(f"FAILED the numbers in help: {numbers}")
+    print(f"ok the {len(numbers)} numbers in help are 01's")
+    for words in [["foo"], [""], ["show", "x"], ["show", ""], ["", "show"], ["show\n"], ["x" * 100_000]]:
+        if printed(leapsec, "help", *words) != NO_HELP:
+            sys.exit(f"FAILED help with {str(words)[:100]}: {printed(leapsec, 'help', *words)!r}")
+    print("ok leapsec without arguments prints its help, and help with what is no word says which there are")
+
+
+def main():
+    leapsec, second = sys.argv[1:3]
+    questions(leapsec, second, Lines(20260701).all(2000))
+    single(leapsec)
+    helps(leapsec)
+
+
+main()
