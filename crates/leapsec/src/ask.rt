@@ -9,7 +9,7 @@ use crate::output::write;
 use libc::STDIN_FILENO;
 
 // A line that is longer than 8,192 bytes is no question, whatever it has behind them. So no more is held of a line that is not complete.
-const MOST_HELD: usize = 8193;
+const MOST_HELD: usize = command::MAX_LINE + 1;
 
 // What a read brought: how many bytes, 0 at the end of the input; or that it failed.
 struct Came {
