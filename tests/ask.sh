@@ -49,7 +49,7 @@ ok "./leapsec builds a program that is older than its crates, with a line that s
 
 # ./leapsec in a folder with a crate of no meaning, and on its path only the tools that it uses
 umask 022
-copy=$(mktemp -d /tmp/leapsec.XXXXXX)
+copy=$(mktemp -d)
 trap 'rm -rf "$copy" "$log"' EXIT
 chmod 755 "$copy"
 mkdir "$copy/crates" "$copy/tools"
