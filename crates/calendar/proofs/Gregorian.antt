@@ -1,4 +1,5 @@
--- One test of the Gregorian rule, computed over a list of days, month after month: the closed form passes it here, and the table in entry/Proof.
+-- One test of the months, computed over a list of days, month after month: the Gregorian rule, and the estimate of each month's first and last day.
+-- The closed form passes it here, and the table in entry/Proof.
 -- Assumes nothing.
 use mathlib.Core.Path.{_≡_, refl, _∙_, ap, sym}
 use mathlib.Core.Bool.{Bool, true, false, _&&_, and-eq-true-iff}
@@ -6,8 +7,8 @@ use mathlib.Core.List.{List, [], _∷_}
 use Prim.Native.Nat.{ℕ, zero, suc, _+_, _-_, _*_, _/_, _%_, _≤_, _<_}
 use native.Mathlib.Nat.{add-zero, zero-add}
 use native.Mathlib.Omega.{arith}
-use borrow.Author.Tests.{eqb-true}
-use lib.Dec.{eqb}
+use borrow.Author.Tests.{eqb-true, leb-true}
+use lib.Dec.{eqb, leb}
 use lib.ListN.{length, getD}
 use Rattle.calendar.specs.Calendar.{firstDay, lastMonth, isLeapYear, monthLengths, daysInMonth, monthStart}
 
@@ -16,9 +17,21 @@ pub no-leap-2100 : isLeapYear 2100 ≡ false
 unfolding isLeapYear
 no-leap-2100 = refl
 
+-- the estimate of the month of day d
+abbrev pub estimated : ℕ → ℕ
+estimated d = (d - 41_301) * 16 / 487
+
+-- the last day of month m, which starts on day s
+abbrev lastOf : ℕ → ℕ → ℕ
+lastOf m s = s + daysInMonth m - 1
+
+-- the test of month m, which starts on day s: the estimate is not early on its first day, and at most one month late on its last
+abbrev near : ℕ → ℕ → Bool
+near m s = leb m (estimated s) && leb (estimated (lastOf m s)) (m + 1)
+
 -- the test of month m, which starts on day s, and of the number x that the list has for it
 abbrev right : ℕ → ℕ → ℕ → Bool
-right m s x = eqb x s
+right m s x = eqb x s && near m s
 
 -- each number of the list passes the test, the first being for month m, which starts on day s
 abbrev pub allRight : ℕ → ℕ → List ℕ → Bool
@@ -36,10 +49,22 @@ from (x ∷ xs) m s e t (suc k) h =
     rw (moved m k) at
     (from xs (suc m) (s + daysInMonth m) (ap (λ y. y + daysInMonth m) e) (and-eq-true-iff (right m s x) _ .0 t .1) k (omega arith))
 
--- a list that passes has the start of each month at its place
-pub listed : (xs : List ℕ) → allRight 0 firstDay xs ≡ true → (m : ℕ) → m < length xs → getD xs m 0 ≡ monthStart m
+-- what the test says of month m, which starts on day s, and of the number x
+pub record Right (m s x : ℕ) : Type 0 where
+  pub start : x ≡ s
+  pub first : m ≤ estimated s
+  pub last : estimated (lastOf m s) ≤ m + 1
+
+right-means : (m s x : ℕ) → right m s x ≡ true → Right m s x
+right-means m s x t =
+    let r = and-eq-true-iff (eqb x s) (near m s) .0 t in
+    let n = and-eq-true-iff (leb m (estimated s)) (leb (estimated (lastOf m s)) (m + 1)) .0 (r .1) in
+    record { start = eqb-true x s (r .0); first = leb-true _ _ (n .0); last = leb-true _ _ (n .1) }
+
+-- a list that passes has the start of each month at its place, and the estimates of each month are near it
+pub listed : (xs : List ℕ) → allRight 0 firstDay xs ≡ true → (m : ℕ) → m < length xs → Right m (monthStart m) (getD xs m 0)
 unfolding monthStart
-listed xs t m h = eqb-true (getD xs m 0) (monthStart m) (rw zero-add at (from xs 0 firstDay refl t m h))
+listed xs t m h = right-means m (monthStart m) (getD xs m 0) (rw zero-add at (from xs 0 firstDay refl t m h))
 
 -- the closed form for the month that comes n months after March 1971, in a year that is taken from March on
 abbrev inYear : ℕ → ℕ → ℕ
@@ -62,8 +87,12 @@ closed-passes : allRight 0 firstDay (closedFrom (lastMonth + 1) 0) ≡ true
 unfolding daysInMonth monthLengths isLeapYear
 closed-passes = refl
 
+-- what the test says of each of the months 0 to 2400, and of the closed form for it
+pub closed-right : {m : ℕ} → m ≤ lastMonth → Right m (monthStart m) (closed m)
+closed-right {m} h =
+    let k : m < lastMonth + 1 = omega arith in
+    rw zero-add at (rw (closed-at (lastMonth + 1) 0 m k) at (listed (closedFrom (lastMonth + 1) 0) closed-passes m k))
+
 -- the closed form gives the day on which each of the months 0 to 2400 starts
 pub closed-form : {m : ℕ} → m ≤ lastMonth → closed m ≡ monthStart m
-closed-form {m} h =
-    let k : m < lastMonth + 1 = omega arith in
-    sym (rw zero-add at (closed-at (lastMonth + 1) 0 m k)) ∙ listed (closedFrom (lastMonth + 1) 0) closed-passes m k
+closed-form h = closed-right h .start

@@ -1,3 +1,4 @@
 pub mod Greatest
 pub mod Gregorian
 pub mod Laws
+pub mod Near

@@ -55,6 +55,11 @@ pub record InMonth (d m : ℕ) : Type 0 where
 unfoldable pub monthOf : ℕ → ℕ
 monthOf d = greatest (λ m. leb (monthStart m) d) lastMonth
 
+-- month m is at most one month off for day d: it is the month of that day, or the next
+pub record MonthOrNext (d m : ℕ) : Type 0 where
+  pub low : monthOf d ≤ m
+  pub high : m ≤ monthOf d + 1
+
 -- the answer for a day in month m
 abbrev pub found : ℕ → Lookup
 found m = record { number = 0; month = m }

@@ -2,7 +2,7 @@
 // A day is a Modified Julian Day; month 0 is January 1972.
 ghost use mathlib.Core.Path.{_≡_};
 ghost use Prim.Native.Nat.{min, _≤_, _<_};
-ghost use Rattle.calendar.specs.Calendar.{firstDay, lastMonth, endDay, monthStart, monthOf, monthAt, found, refused};
+ghost use Rattle.calendar.specs.Calendar.{firstDay, lastMonth, endDay, monthStart, monthOf, MonthOrNext, monthAt, found, refused};
 
 mod table;
 
@@ -73,22 +73,25 @@ pub fn first_day(month: u16) -> u64
     computed_start(at_most_last(month as u32))
 }
 
-// The month of a day, by halving: month low has started by that day, and month high has not.
-fn month_by_halving(day: u64) -> u16
+// The month of a day, or the next one, with no table and no loop. 400 years have 4,800 months and 146,097 days: 16 months have 487 days less
+// a hundredth. Counted from any day from 41287 to 41314 on, the estimate is never early and at most one month late; 41301 is amid them.
+fn estimate(day: u64) -> u16
+    requires { ⌜ (firstDay ≤ day) × (day < endDay) ⌝ }
+    ensures { λ r. ⌜ MonthOrNext day r ⌝ }
+{
+    ((day - 41_301) * 16 / 487) as u16
+}
+
+// The month of a day: the estimate, or the month before it where that one starts after the day.
+fn month_by_estimate(day: u64) -> u16
     requires { ⌜ (firstDay ≤ day) × (day < endDay) ⌝ }
     ensures { λ r. ⌜ r ≡ monthOf day ⌝ }
 {
-    let mut low: u16 = 0;
-    let mut high = LAST_MONTH;
-    while 1 < high - low {
-        let middle = low + (high - low) / 2;
-        if day < computed_start(middle) {
-            high = middle;
-        } else {
-            low = middle;
-        }
+    let month = estimate(day);
+    if day < computed_start(month) {
+        return month - 1;
     }
-    low
+    month
 }
 
 // The answer for a day in a month.
@@ -115,5 +118,5 @@ pub fn month_of(day: u64) -> Lookup
     if END_DAY <= day {
         return refused(NOT_KNOWN);
     }
-    found(month_by_halving(day))
+    found(month_by_estimate(day))
 }

@@ -24,7 +24,7 @@ table-passes = refl
 
 -- each entry of the table is the day on which its month starts by the Gregorian rule
 table-is-gregorian : {m : ℕ} → m ≤ lastMonth → getD table m 0 ≡ monthStart m
-table-is-gregorian {m} h = listed table table-passes m (omega arith)
+table-is-gregorian {m} h = listed table table-passes m (omega arith) .start
 
 pub entry-spec : {M : Type 1} → statement M
 entry-spec = tie.close (tie.spec (λ c. search needs) (λ c. search needs) (λ c. table-is-gregorian (c .pre)))

@@ -15,7 +15,7 @@ returns-2 : tie.Need-returns-2
 returns-2 c = c .refused2 .ensures ∙ sym (at-late (omega arith))
 
 returns-3 : tie.Need-returns-3
-returns-3 c = c .found .ensures ∙ ap found (c .before .month-by-halving .ensures) ∙ sym (at-given (omega arith) (omega arith))
+returns-3 c = c .found .ensures ∙ ap found (c .before .month-by-estimate .ensures) ∙ sym (at-given (omega arith) (omega arith))
 
 pub month-of-spec : {M : Type 1} → statement M
 month-of-spec =
