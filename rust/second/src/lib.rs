@@ -14,6 +14,7 @@ pub mod ask;
 pub mod calendar;
 pub mod clock;
 pub mod figures;
+pub mod months;
 pub mod nybbles;
 pub mod plain;
 pub mod refusal;

@@ -1,5 +1,6 @@
 //! `second figures`   every figure of the papers, one a line (see figures.rs)
 //! `second plain`     the figures in the lines of the proved program (see plain.rs)
+//! `second months`    the month of every day in the lines of another (see months.rs)
 //! `second ask`       a question a line from standard input, an answer a line
 //! `second WORD ..`   one question of `ask` given as arguments, which a space
 //!                    joins to a line; `show` then prints a line a stretch
@@ -15,27 +16,24 @@ use std::os::unix::ffi::OsStrExt;
 use std::process::ExitCode;
 
 use second::ask::{self, Desk, Reply};
-use second::{figures, plain};
+use second::{figures, months, plain};
+
+fn print(lines: &[String], status: u8) -> io::Result<ExitCode> {
+    let mut out = io::stdout().lock();
+    for line in lines {
+        writeln!(out, "{line}")?;
+    }
+    Ok(ExitCode::from(status))
+}
 
 fn single(words: &[OsString]) -> io::Result<ExitCode> {
     let words: Vec<&[u8]> = words.iter().map(|w| w.as_bytes()).collect();
-    let mut out = io::stdout().lock();
-    match Desk::new().question(&words.join(&b' ')) {
-        Reply::Answer(lines) => {
-            for line in lines {
-                writeln!(out, "{line}")?;
-            }
-            Ok(ExitCode::SUCCESS)
-        }
-        Reply::Refused(line) => {
-            writeln!(out, "{line}")?;
-            Ok(ExitCode::from(1))
-        }
-        Reply::NoQuestion => {
-            writeln!(out, "? no question")?;
-            Ok(ExitCode::from(2))
-        }
-    }
+    let (lines, status) = match Desk::new().question(&words.join(&b' ')) {
+        Reply::Answer(lines) => (lines, 0),
+        Reply::Refused(line) => (vec![line], 1),
+        Reply::NoQuestion => (vec!["? no question".to_string()], 2),
+    };
+    print(&lines, status)
 }
 
 fn main() -> io::Result<ExitCode> {
@@ -53,13 +51,8 @@ fn main() -> io::Result<ExitCode> {
             }
             Ok(status)
         }
-        [b"plain"] => {
-            let mut out = io::stdout().lock();
-            for line in plain::lines() {
-                writeln!(out, "{line}")?;
-            }
-            Ok(ExitCode::SUCCESS)
-        }
+        [b"plain"] => print(&plain::lines(), 0),
+        [b"months"] => print(&months::lines(), 0),
         [b"ask"] => ask::run(io::stdin().lock(), io::stdout().lock()).map(|()| ExitCode::SUCCESS),
         _ => single(&words),
     }
