@@ -9,13 +9,13 @@ quietly "rt check figures months" rt check figures months
 quietly "the second program does not build" env -C rust cargo build --offline --locked --quiet --release -p second
 second=target/rust/release/second
 
-# agree PROGRAM WORD WHAT: the proved program, the second one with that word, and the file print the same.
+# agree PROGRAM WORD WHAT: the proved program and the second one with that word print the same lines, which are the file's.
 agree() {
     "target/bin/$1" >"$built/$1.proved"
     "$second" "$2" >"$built/$1.second"
     quietly "the two programs differ in the $3" diff "$built/$1.proved" "$built/$1.second"
     quietly "the $3 are not those of crates/$1/stdout" diff "$built/$1.second" "crates/$1/stdout"
-    ok "$(wc -l <"crates/$1/stdout") $3 are the same in both programs"
+    ok "$(wc -l <"crates/$1/stdout") lines of $3 are the same in both programs"
 }
 agree figures plain figures
 agree months months "stretches of days"

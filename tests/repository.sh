@@ -31,6 +31,18 @@ for crate in $crates; do
 done
 ok "every public function of a library has an ensures and no requires"
 
+# no contract says how a month is found: from an estimate that calls nothing, with no loop, and with no table but in month_start
+code=$(sed 's|//.*||' crates/calendar/src/lib.rt)
+body() {
+    awk -v name="fn $1(" 'index($0, name) { on = 1 } on && /^\}/ { exit } inside { print } on && /^\{/ { inside = 1 }' <<<"$code"
+}
+! grep -qwE 'while|loop|for|std' <<<"$code" || fail "crates/calendar/src/lib.rt has a loop, or a sum that may wrap"
+[ "$(grep -cwE 'entry|MONTH_STARTS' <<<"$code")" -eq 4 ] && body entry | grep -q MONTH_STARTS && body month_start | grep -q 'entry(' \
+    || fail "another function than month_start reads the table"
+[ -n "$(body estimate)" ] && ! body estimate | grep -qE '\w\(' || fail "the estimate of a month calls a function"
+body month_by_estimate | head -n 1 | grep -q '= estimate(day);' || fail "the month of a day does not start from the estimate"
+ok "the month of a day starts from an estimate, with no loop and no table"
+
 # what a crate assumes is counted on its last line; a library assumes nothing
 for crate in $crates; do
     [ -f "crates/$crate/src/lib.rt" ] || continue

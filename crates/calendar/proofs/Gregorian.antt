@@ -1,7 +1,7 @@
--- One test of the months, computed over a list of days, month after month: the Gregorian rule, and the estimate of each month's first and last day.
+-- One test of the months, computed over a list of days, month after month: the Gregorian rule, and the estimates for each month's first and last day.
 -- The closed form passes it here, and the table in entry/Proof.
 -- Assumes nothing.
-use mathlib.Core.Path.{_≡_, refl, _∙_, ap, sym}
+use mathlib.Core.Path.{_≡_, refl, _∙_, ap}
 use mathlib.Core.Bool.{Bool, true, false, _&&_, and-eq-true-iff}
 use mathlib.Core.List.{List, [], _∷_}
 use Prim.Native.Nat.{ℕ, zero, suc, _+_, _-_, _*_, _/_, _%_, _≤_, _<_}
@@ -61,7 +61,7 @@ right-means m s x t =
     let n = and-eq-true-iff (leb m (estimated s)) (leb (estimated (lastOf m s)) (m + 1)) .0 (r .1) in
     record { start = eqb-true x s (r .0); first = leb-true _ _ (n .0); last = leb-true _ _ (n .1) }
 
--- a list that passes has the start of each month at its place, and the estimates of each month are near it
+-- a list that passes has the start of each month at its place, and the estimates for its first and last day are at most one month off
 pub listed : (xs : List ℕ) → allRight 0 firstDay xs ≡ true → (m : ℕ) → m < length xs → Right m (monthStart m) (getD xs m 0)
 unfolding monthStart
 listed xs t m h = right-means m (monthStart m) (getD xs m 0) (rw zero-add at (from xs 0 firstDay refl t m h))

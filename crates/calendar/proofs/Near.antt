@@ -1,18 +1,19 @@
--- The estimate of a day's month, and the step from it to the month. The estimate is tested on each month's first and last day; it grows in between.
+-- The estimate of a day's month, and the step from it to the month. It is tested on the first and the last day of each month, and never falls in between.
 -- Assumes nothing.
 use mathlib.Core.Path.{_≡_}
 use Prim.Native.Nat.{ℕ, _+_, _≤_, _<_}
 use native.Mathlib.Omega.{arith}
-use Rattle.calendar.specs.Calendar.{firstDay, endDay, monthStart, InMonth, monthOf, MonthOrNext}
+use Rattle.calendar.specs.Calendar.{firstDay, endDay, monthStart, monthOf, MonthOrNext}
 use Rattle.calendar.proofs.Gregorian.{estimated, closed-right}
 use Rattle.calendar.proofs.Laws.{start-next, started, not-started, in-month, month-below}
 
--- of the month of a day and the next one, the next is the one that starts after the day
-pub is-next : {d m : ℕ} → InMonth d (monthOf d) → MonthOrNext d m → d < monthStart m → m ≡ monthOf d + 1
-is-next {d} {m} i n h = omega (arith, n .high, not-started m i h)
+-- of the month of a day and the next one, the next is the one that starts after the day,
+pub is-next : {d m : ℕ} → firstDay ≤ d → d < endDay → MonthOrNext d m → d < monthStart m → m ≡ monthOf d + 1
+is-next {m = m} p q n h = omega (arith, n .high, not-started m (in-month p q) h)
 
-pub is-own : {d m : ℕ} → InMonth d (monthOf d) → MonthOrNext d m → monthStart m ≤ d → m ≡ monthOf d
-is-own {d} {m} i n h = omega (arith, n .low, started m i h)
+-- and the day's own is the one that has started by then
+pub is-own : {d m : ℕ} → firstDay ≤ d → d < endDay → MonthOrNext d m → monthStart m ≤ d → m ≡ monthOf d
+is-own {m = m} p q n h = omega (arith, n .low, started m (in-month p q) h)
 
 -- the estimate is at most one month off, and never early, for every day from MJD 41317 to 114365
 pub at-most-one-off : {d : ℕ} → firstDay ≤ d → d < endDay → MonthOrNext d (estimated d)

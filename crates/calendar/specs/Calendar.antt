@@ -55,7 +55,7 @@ pub record InMonth (d m : ℕ) : Type 0 where
 unfoldable pub monthOf : ℕ → ℕ
 monthOf d = greatest (λ m. leb (monthStart m) d) lastMonth
 
--- month m is at most one month off for day d: it is the month of that day, or the next
+-- month m is at most one month off for day d, and never early: it is the month of that day, or the next
 pub record MonthOrNext (d m : ℕ) : Type 0 where
   pub low : monthOf d ≤ m
   pub high : m ≤ monthOf d + 1

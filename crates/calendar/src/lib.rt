@@ -73,8 +73,8 @@ pub fn first_day(month: u16) -> u64
     computed_start(at_most_last(month as u32))
 }
 
-// The month of a day, or the next one, with no table and no loop. 400 years have 4,800 months and 146,097 days: 16 months have 487 days less
-// a hundredth. Counted from any day from 41287 to 41314 on, the estimate is never early and at most one month late; 41301 is amid them.
+// An estimate of the month of a day, made with no table and no loop: that month or the next one. 400 years have 4,800 months and 146,097 days,
+// so 16 months have 487 days on average, less a hundredth. Any first day from 41287 to 41314 would serve; 41301 is about their middle.
 fn estimate(day: u64) -> u16
     requires { ⌜ (firstDay ≤ day) × (day < endDay) ⌝ }
     ensures { λ r. ⌜ MonthOrNext day r ⌝ }
@@ -82,7 +82,7 @@ fn estimate(day: u64) -> u16
     ((day - 41_301) * 16 / 487) as u16
 }
 
-// The month of a day: the estimate, or the month before it where that one starts after the day.
+// The month of a day: the estimated one, or the one before it where the estimated one starts after the day.
 fn month_by_estimate(day: u64) -> u16
     requires { ⌜ (firstDay ≤ day) × (day < endDay) ⌝ }
     ensures { λ r. ⌜ r ≡ monthOf day ⌝ }

@@ -1,5 +1,5 @@
 // Asks for the month of every day from MJD 41310 to 114370, each once, and prints a line for each stretch of days with one answer: its first day,
-// its last day, and the month, or `!` and the number of the refusal.
+// its last day, and the month, or `!` and the number of the refusal. The last line says how many days were asked about.
 use calendar::Lookup;
 
 const FROM: u64 = 41_310;
@@ -34,9 +34,11 @@ fn stretch(first: u64, last: u64, answer: Lookup) {
 fn main() {
     let mut first = FROM;
     let mut answer = calendar::month_of(FROM);
+    let mut asked: u64 = 1;
     let mut day = FROM + 1;
     while day <= TO {
         let next = calendar::month_of(day);
+        asked += 1;
         if !same(answer, next) {
             stretch(first, day - 1, answer);
             first = day;
@@ -45,4 +47,6 @@ fn main() {
         day += 1;
     }
     stretch(first, TO, answer);
+    io::print_decimal(1, asked);
+    put(b" days\n");
 }

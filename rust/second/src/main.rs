@@ -1,6 +1,6 @@
 //! `second figures`   every figure of the papers, one a line (see figures.rs)
 //! `second plain`     the figures in the lines of the proved program (see plain.rs)
-//! `second months`    the month of every day in the lines of another (see months.rs)
+//! `second months`    the month of every day in the lines of the proved program (see months.rs)
 //! `second ask`       a question a line from standard input, an answer a line
 //! `second WORD ..`   one question of `ask` given as arguments, which a space
 //!                    joins to a line; `show` then prints a line a stretch

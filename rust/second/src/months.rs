@@ -1,6 +1,7 @@
 //! The month of every day from MJD 41310 to 114370, in the lines of the proved
 //! program `months`, to compare the two outputs: a line for each stretch of days
-//! with one answer, its first day, its last day and the answer.
+//! with one answer, its first day, its last day and the answer; at last how many
+//! days there are.
 
 use std::ops::RangeInclusive;
 
@@ -22,8 +23,10 @@ fn month(mjd: u64) -> String {
 
 pub fn lines() -> Vec<String> {
     let answers: Vec<(u64, String)> = DAYS.map(|mjd| (mjd, month(mjd))).collect();
-    answers
-        .chunk_by(|a, b| a.1 == b.1)
+    let stretches = answers.chunk_by(|a, b| a.1 == b.1);
+    let mut lines: Vec<String> = stretches
         .map(|days| format!("{} {} {}", days[0].0, days[days.len() - 1].0, days[0].1))
-        .collect()
+        .collect();
+    lines.push(format!("{} days", answers.len()));
+    lines
 }

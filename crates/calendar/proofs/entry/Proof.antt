@@ -1,4 +1,4 @@
--- `calendar::entry` meets its contract: the whole table passes the test of the Gregorian rule, which antt computes.
+-- `calendar::entry` meets its contract: the whole table passes the test of the months, which antt computes.
 -- Assumes nothing.
 use mathlib.Core.Path.{_≡_, refl}
 use mathlib.Core.Bool.{true}
