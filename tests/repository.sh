@@ -31,17 +31,25 @@ for crate in $crates; do
 done
 ok "every public function of a library has an ensures and no requires"
 
-# no contract says how a month is found: from an estimate that calls nothing, with no loop, and with no table but in month_start
+# no contract says how a month is found. By the text of the code: from an estimate, with no table, no loop and no function that calls itself
 code=$(sed 's|//.*||' crates/calendar/src/lib.rt)
 body() {
     awk -v name="fn $1(" 'index($0, name) { on = 1 } on && /^\}/ { exit } inside { print } on && /^\{/ { inside = 1 }' <<<"$code"
 }
-! grep -qwE 'while|loop|for|std' <<<"$code" || fail "crates/calendar/src/lib.rt has a loop, or a sum that may wrap"
-[ "$(grep -cwE 'entry|MONTH_STARTS' <<<"$code")" -eq 4 ] && body entry | grep -q MONTH_STARTS && body month_start | grep -q 'entry(' \
-    || fail "another function than month_start reads the table"
-[ -n "$(body estimate)" ] && ! body estimate | grep -qE '\w\(' || fail "the estimate of a month calls a function"
-body month_by_estimate | head -n 1 | grep -q '= estimate(day);' || fail "the month of a day does not start from the estimate"
-ok "the month of a day starts from an estimate, with no loop and no table"
+# calls FUNCTION CALLED..: its body has no loop and no table, and calls these functions, by their names' order, and no others
+calls() {
+    local name=$1 found
+    shift
+    [ -n "$(body "$name")" ] || fail "crates/calendar/src/lib.rt has no function $name"
+    ! body "$name" | grep -wE 'while|loop|for|MONTH_STARTS' || fail "calendar::$name has a loop, or reads the table"
+    found=$(body "$name" | { grep -oE '[a-z_0-9:]+\(' || true; } | tr -d '(' | sort -u | paste -sd ' ')
+    [ "$found" = "$*" ] || fail "calendar::$name calls '$found', not '$*'"
+}
+calls estimate
+calls computed_start
+calls month_by_estimate computed_start estimate
+calls month_of found month_by_estimate refused
+ok "the month of a day comes from an estimate, with no table, no loop and no function that calls itself"
 
 # what a crate assumes is counted on its last line; a library assumes nothing
 for crate in $crates; do

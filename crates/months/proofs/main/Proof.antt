@@ -1,4 +1,4 @@
--- `months::main` is safe and ends: its loop goes over the days to 114370, and no more are asked about. Assumes nothing.
+-- `months::main` is safe and ends: its loop goes over the days to 114370, and the count stays below the day. Assumes nothing.
 use Prim.Native.Nat.{_≤_, _<_, _-_}
 use native.Mathlib.Omega.{arith}
 use borrow.Author.Needs.{needs}
