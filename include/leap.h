@@ -12,10 +12,12 @@
  *     if (no == LEAP_OK)
  *         assert(nanos == UINT64_C(86399001000000));
  *
- * Every call returns LEAP_OK (0) with an answer, or the number of a refusal.
- * Every output is set by every call. On a refusal the numbers asked for are 0,
- * a schedule is blank (all 514 words 0), and a writer's buffer is left as it
- * was; a reader's *place is where it stopped, and 0 if the list is taken.
+ * A call returns LEAP_OK (0) with an answer, or the number of a refusal, and
+ * sets every output. On a refusal the numbers asked for are 0, a schedule is
+ * blank (all 514 words 0), and a writer's buffer is left as it was; a reader's
+ * *place is where it stopped, and 0 if the list is taken. A call whose name ends
+ * in _many returns a count instead, puts what one call would return into its
+ * array `numbers`, and sets the elements of each output below that count.
  *
  * No pointer may be null. An empty input or output may be given as any pointer
  * that isn't null, with length 0. Pointers must be aligned for their type. An
@@ -32,7 +34,7 @@
 extern "C" {
 #endif
 
-/* What a call returns. */
+/* What a call returns, or puts into `numbers`. */
 enum {
     LEAP_OK = 0,               /* an answer */
     LEAP_ENDS_EARLY = 1,       /* the list ends early */
@@ -135,6 +137,53 @@ uint8_t leap_utc_to_uts(const leap_schedule *s, uint64_t mjd, uint64_t micros,
  * 85,399,000,000,000 on). */
 uint8_t leap_uts_to_utc(const leap_schedule *s, uint64_t mjd, uint64_t nanos,
                         uint64_t *micros);
+
+/* Many questions under one list. A call asks the question of its name once for
+ * each element, and sets numbers[i], and element i of each other output, to what
+ * the call for one question returns and sets: LEAP_OK and the answer, or the
+ * number of the refusal and 0. So under a list that is not well formed all
+ * numbers are 11 and all answers 0.
+ *
+ * Each array is followed by its length, in elements. The call returns how many
+ * were asked, answered or refused: the shortest of the lengths. Elements beyond
+ * that stay as they were. No output may overlap another array or the schedule.
+ * The list is checked once, and after that an instant costs a few nanoseconds.
+ */
+
+/* TAI minus UTC on each day, in seconds: leap_dtai. */
+uint64_t leap_dtai_many(const leap_schedule *s,
+                        const uint64_t *mjd, size_t mjd_length,
+                        uint8_t *numbers, size_t numbers_length,
+                        int32_t *dtai, size_t dtai_length);
+
+/* The TAI of each UTC instant, micros[i] on day mjd[i]: leap_utc_to_tai. */
+uint64_t leap_utc_to_tai_many(const leap_schedule *s,
+                              const uint64_t *mjd, size_t mjd_length,
+                              const uint64_t *micros, size_t micros_length,
+                              uint8_t *numbers, size_t numbers_length,
+                              uint64_t *tai, size_t tai_length);
+
+/* The UTC instant with each TAI, micros[i] on day mjd[i]: leap_tai_to_utc. */
+uint64_t leap_tai_to_utc_many(const leap_schedule *s,
+                              const uint64_t *tai, size_t tai_length,
+                              uint8_t *numbers, size_t numbers_length,
+                              uint64_t *mjd, size_t mjd_length,
+                              uint64_t *micros, size_t micros_length);
+
+/* The UTS of each UTC instant, on the same day: leap_utc_to_uts. */
+uint64_t leap_utc_to_uts_many(const leap_schedule *s,
+                              const uint64_t *mjd, size_t mjd_length,
+                              const uint64_t *micros, size_t micros_length,
+                              uint8_t *numbers, size_t numbers_length,
+                              uint64_t *nanos, size_t nanos_length);
+
+/* The greatest UTC microseconds of each day mjd[i] whose UTS is not above
+ * nanos[i]: leap_uts_to_utc. */
+uint64_t leap_uts_to_utc_many(const leap_schedule *s,
+                              const uint64_t *mjd, size_t mjd_length,
+                              const uint64_t *nanos, size_t nanos_length,
+                              uint8_t *numbers, size_t numbers_length,
+                              uint64_t *micros, size_t micros_length);
 
 #ifdef __cplusplus
 }

@@ -26,7 +26,8 @@ quietly "the header's example does not compile" gcc -std=c99 "${strict[@]}" \
 quietly "the header's example" "$built/example"
 ok "header: its example"
 
-declared=$(sed -n 's/^uint8_t \(leap_[a-z_]*\)(.*/\1/p' "$root/include/leap.h" | sort)
+# A declaration starts a line with the type returned, a number or a count.
+declared=$(sed -nE 's/^uint(8|64)_t (leap_[a-z_]*)\(.*/\2/p' "$root/include/leap.h" | sort)
 defined=$(nm -g --defined-only "$LEAP_LIB_DIR/libleap.a" | awk 'NF == 3 { print $3 }' | sort)
 [ -n "$declared" ] && [ "$declared" = "$defined" ] \
     || fail "the header declares ${declared//$'\n'/ }, the archive defines ${defined//$'\n'/ }"
@@ -36,7 +37,7 @@ size "$LEAP_LIB_DIR/libleap.a" | awk 'NR > 1 { sum += $2 + $3; n++ } END { exit 
     || fail "the archive has data that can change"
 ok "archive: no data that can change, so no state"
 
-for test in lists times malformed; do
+for test in lists times malformed many; do
     compiled "$test" -g -fsanitize=address,undefined
     quietly "$test" "$built/$test"
     count_oks "$test"

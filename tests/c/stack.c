@@ -15,15 +15,17 @@
 
 #include "leap.h"
 
-enum { LIMIT = 65536, PAINTED = 4 << 20, PAINT = 0xc5, INPUT = 1 << 20 };
+enum { LIMIT = 65536, PAINTED = 4 << 20, PAINT = 0xc5, INPUT = 1 << 20, MANY = 100000 };
 
-/* What a case works on; none of it on the stack. */
+/* What a case works on; none of it on the stack. Of many questions there are
+ * more than 16 bits can count. */
 static uint8_t input[INPUT], output[4096];
 static size_t length;
 static leap_schedule schedule, read_back;
 static uint64_t first, second, one, two;
-static int32_t dtai;
-static uint8_t number;
+static int32_t dtai, dtais[MANY];
+static uint64_t firsts[MANY], seconds[MANY], ones[MANY], twos[MANY];
+static uint8_t number, numbers[MANY];
 
 static void nothing(void) {}
 static void read_text(void) { number = leap_read_text(input, length, &read_back, &one); }
@@ -38,6 +40,29 @@ static void utc_to_tai(void) { number = leap_utc_to_tai(&schedule, first, second
 static void tai_to_utc(void) { number = leap_tai_to_utc(&schedule, first, &one, &two); }
 static void utc_to_uts(void) { number = leap_utc_to_uts(&schedule, first, second, &one); }
 static void uts_to_utc(void) { number = leap_uts_to_utc(&schedule, first, second, &one); }
+
+/* The number of the last of many questions, if all were asked. */
+static void asked(uint64_t count) { number = count == MANY ? numbers[MANY - 1] : UINT8_MAX; }
+static void dtai_many(void)
+{
+    asked(leap_dtai_many(&schedule, firsts, MANY, numbers, MANY, dtais, MANY));
+}
+static void utc_to_tai_many(void)
+{
+    asked(leap_utc_to_tai_many(&schedule, firsts, MANY, seconds, MANY, numbers, MANY, ones, MANY));
+}
+static void tai_to_utc_many(void)
+{
+    asked(leap_tai_to_utc_many(&schedule, firsts, MANY, numbers, MANY, ones, MANY, twos, MANY));
+}
+static void utc_to_uts_many(void)
+{
+    asked(leap_utc_to_uts_many(&schedule, firsts, MANY, seconds, MANY, numbers, MANY, ones, MANY));
+}
+static void uts_to_utc_many(void)
+{
+    asked(leap_uts_to_utc_many(&schedule, firsts, MANY, seconds, MANY, numbers, MANY, ones, MANY));
+}
 
 /* The input is `count` times the unit, then the tail. */
 static void repeat(const char *unit, size_t unit_length, size_t count, const char *tail,
@@ -101,18 +126,24 @@ static void longest_gap(void)
     memset(&schedule, 0, sizeof schedule);
     schedule.expiry = 999;
 }
-static void malformed(void) { dense(9), schedule.leap[255].negative = 2; }
 
 /* 256 leaps, 9 months apart. The last, a negative one, is at month 2304, January
  * 2164. The 192 years before that have 47 leap days (2100 has none), 70,127 days
  * in all, so it is MJD 111444. DTAI is 265 up to there, and 264 from then on. */
-static void ask(uint64_t a, uint64_t b) { dense(9), first = a, second = b; }
+static void ask(uint64_t a, uint64_t b)
+{
+    size_t i;
+    dense(9), first = a, second = b;
+    for (i = 0; i < MANY; i++)
+        firsts[i] = a, seconds[i] = b, numbers[i] = UINT8_MAX;
+}
 static void ask_day(void) { ask(111443, 0); }
 static void ask_micros(void) { ask(111443, UINT64_C(86398000000)); }
 static void ask_nanos(void) { ask(111443, UINT64_C(86399999999999)); }
 static void ask_tai(void) { ask(UINT64_C(86400000000) * (111444 - 41317) + 264000000, 0); }
 static void ask_first(void) { ask(41317, 0); }
 static void ask_far(void) { ask(UINT64_MAX, 0); }
+static void malformed(void) { ask_first(), schedule.leap[255].negative = 2; }
 
 static const struct {
     const char *name;
@@ -148,6 +179,16 @@ static const struct {
     {"utc_to_uts, the first day", ask_first, utc_to_uts, 0},
     {"uts_to_utc, 256 leaps", ask_nanos, uts_to_utc, 0},
     {"uts_to_utc, the first day", ask_first, uts_to_utc, 0},
+    {"dtai_many, 256 leaps", ask_day, dtai_many, 0},
+    {"dtai_many, malformed", malformed, dtai_many, 11},
+    {"utc_to_tai_many, 256 leaps", ask_micros, utc_to_tai_many, 0},
+    {"utc_to_tai_many, a far day", ask_far, utc_to_tai_many, 10},
+    {"tai_to_utc_many, 256 leaps", ask_tai, tai_to_utc_many, 0},
+    {"tai_to_utc_many, a far TAI", ask_far, tai_to_utc_many, 10},
+    {"utc_to_uts_many, 256 leaps", ask_micros, utc_to_uts_many, 0},
+    {"utc_to_uts_many, the first day", ask_first, utc_to_uts_many, 0},
+    {"uts_to_utc_many, 256 leaps", ask_nanos, uts_to_utc_many, 0},
+    {"uts_to_utc_many, the first day", ask_first, uts_to_utc_many, 0},
 };
 
 static void must(int error, const char *what)

@@ -12,4 +12,8 @@ pub mod Agree
 pub mod Differ
 pub mod Numbers
 pub mod Places
+pub mod LaidOut
+pub mod Placed
+pub mod Preparing
+pub mod Filled
 pub mod Signed

@@ -27,14 +27,14 @@ use Rattle.clock.specs.declared.look.Survey.{Survey}
 use Rattle.clock.specs.declared.days.Day.{Day}
 use Rattle.clock.specs.Days.{count, tally, ending}
 use Rattle.clock.specs.Known.{lastDay, knownTo, known}
-use Rattle.clock.specs.Inner.{reached, upTo, Tallied, Surveyed, endingBy, dayOn, DayFor}
+use Rattle.clock.specs.Inner.{reached, upTo, Tallied, Surveyed, TalliedOn, SurveyedOn, endingBy, dayOn, ListFor, DayFor, nearDay}
 use Rattle.clock.proofs.Leaps.{part}
 use Rattle.clock.proofs.Tai.{count-small, last-inside, tally-after}
 
 -- ---- counting faults
 
 -- no fault in all is none before and none now
-eqb-sum : (a b : ℕ) → eqb (a + b) 0 ≡ (eqb a 0 && eqb b 0)
+pub eqb-sum : (a b : ℕ) → eqb (a + b) 0 ≡ (eqb a 0 && eqb b 0)
 eqb-sum zero b = let z : 0 + b ≡ b = omega arith in rw z
 eqb-sum (suc a) b = ne-eqb (suc a + b) 0 (λ e. omega arith) ∙ sym (rw (ne-eqb (suc a) 0 (λ e. omega arith)))
 
@@ -176,16 +176,19 @@ ending-told Ordinary v p q = ending-ordinary v (omega arith) (omega arith)
 ending-told Inserted v p q = ending-inserted v (omega arith)
 ending-told Deleted v p q = ending-deleted v (omega arith) (omega arith)
 
-pub day-is : (s : Schedule) → wellFormed s ≡ true → {day m n : ℕ} → InMonth day m → InMonth (day + 1) n → (v : Survey) → v .well ≡ wellFormed s → Tallied s m n v
-    → (last : ℕ) → last ≡ lastDay s → _≡_ {A = Day} (record { well = v .well; up = v .up; down = v .down; ending = endingBy v; last = last }) (dayOn s day)
-day-is s w {day} i j v well t last e =
-    let up = t .up ∙ sym (tally-is Positive (leapsOf s) i) in
-    let down = t .down ∙ sym (tally-is Negative (leapsOf s) i) in
-    let ends : endingBy v ≡ ending s day =
-    ending-told (ending s day) v
-    (omega (arith, t .upNext, tally-is Positive (leapsOf s) j, tally-after s w Positive day))
-    (omega (arith, t .downNext, tally-is Negative (leapsOf s) j, tally-after s w Negative day)) in
-    rw (ends, well, up, down, e)
+-- what is found by a survey for a day
+pub day-surveyed : {s : Schedule} {day : ℕ} {v : Survey} → SurveyedOn s day v → (last : ℕ) → (wellFormed s ≡ true → last ≡ lastDay s)
+    → DayFor s day (record { well = v .well; up = v .up; down = v .down; ending = endingBy v; last = last })
+day-surveyed {s} {day} {v} f last e =
+    record {
+      well = f .well;
+      last = e;
+      is = λ w p q.
+          let t = f .tallied w p q in
+          let ends : endingBy v ≡ ending s day =
+          ending-told (ending s day) v (omega (arith, t .up, t .upNext, tally-after s w Positive day)) (omega (arith, t .down, t .downNext, tally-after s w Negative day)) in
+          rw (ends, f .well, t .up, t .down, e w);
+    }
 
 -- the calendar's lookup gives a month below 2400, and the day's month where it has one
 pub month-small : (day : ℕ) {r : Lookup} → r ≡ monthAt day → r .month < lastMonth
@@ -199,9 +202,33 @@ month-small day e =
 pub month-found : {day : ℕ} {r : Lookup} → r ≡ monthAt day → firstDay ≤ day → day < endDay → InMonth day (r .month)
 month-found e p q = rw (e ∙ at-given p q) (in-month p q)
 
--- what is found of a day up to the last one is what the schedule says of it
-pub day-known : {s : Schedule} {day : ℕ} {k : Day} → DayFor s day k → wellFormed s ≡ true → firstDay ≤ day → day ≤ lastDay s → k ≡ dayOn s day
-day-known {s} f w p q = f .is w p (omega (arith, last-inside s w))
+-- a survey by the months of a day and of the next is one for the day
+pub surveyed-on : {s : Schedule} {day next : ℕ} {r : Lookup} {v : Survey} → r ≡ monthAt day → (InMonth day (r .month) → InMonth (day + 1) next) → Surveyed s (r .month) next v
+    → SurveyedOn s day v
+surveyed-on {s} {day} e n f =
+    record {
+      well = f .well;
+      tallied = λ w p q.
+          let own = month-found e p (omega (arith, last-inside s w)) in
+          let t = f .tallied w in
+          record {
+            up = t .up ∙ sym (tally-is Positive (leapsOf s) own);
+            down = t .down ∙ sym (tally-is Negative (leapsOf s) own);
+            upNext = t .upNext ∙ sym (tally-is Positive (leapsOf s) (n own));
+            downNext = t .downNext ∙ sym (tally-is Negative (leapsOf s) (n own));
+          };
+    }
 
-pub known-by : {s : Schedule} {day : ℕ} {k : Day} → DayFor s day k → wellFormed s ≡ true → (cutoff t : ℕ) → knownTo (k .last) cutoff day t ≡ known s cutoff day t
-known-by {day = day} f w cutoff t = ap (λ last. knownTo last cutoff day t) (f .last w)
+-- the last day, found before the day, is the one found with it
+pub near-by : {s : Schedule} {near : ℕ} {k : Day} → DayFor s near k → (x last : ℕ) → (wellFormed s ≡ true → last ≡ lastDay s) → near ≡ nearDay x last
+    → k .well ≡ true → near ≡ nearDay x (k .last)
+near-by {s} {near} f x last e n w =
+    let ok : wellFormed s ≡ true = sym (f .well) ∙ w in
+    n ∙ ap (λ z. nearDay x z) (e ok ∙ sym (f .last ok))
+
+-- what is found of a day tells whether the schedule is well formed, and its last day
+pub list-for : {s : Schedule} {day : ℕ} {k : Day} → DayFor s day k → ListFor s (k .well) (k .last)
+list-for f = record { is-well = f .well; is-last = f .last }
+
+pub known-by : {s : Schedule} {well : Bool} {last : ℕ} → ListFor s well last → wellFormed s ≡ true → (cutoff day t : ℕ) → knownTo last cutoff day t ≡ known s cutoff day t
+known-by f w cutoff day t = ap (λ z. knownTo z cutoff day t) (f .is-last w)

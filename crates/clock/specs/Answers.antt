@@ -1,8 +1,11 @@
 -- What the enums that the clock answers with mean: the number and the values of each case, and the case of each answer.
 -- Assumes nothing: these are definitions.
+use mathlib.Core.Path.{_≡_}
 use Prim.Native.Nat.{ℕ}
+use mir.Syntax.{w32}
+use mir.Val.{toZ, ofZ}
 use lib.IntN.{ℤ, pos}
-use Rattle.clock.specs.Question.{Answer, given, refused, Utc}
+use Rattle.clock.specs.Question.{Answer, given, refused, Utc, orZero, number as numberOf}
 use Rattle.clock.specs.declared.DtaiAnswer.{DtaiAnswer}
 use Rattle.clock.specs.declared.DtaiAnswer.the-variants as dtai
 use Rattle.clock.specs.declared.TaiAnswer.{TaiAnswer}
@@ -27,6 +30,10 @@ dtaiValue (dtai.Refused n) = pos 0
 abbrev pub dtaiAnswer : Answer ℤ → DtaiAnswer
 dtaiAnswer (given z) = dtai.Given z
 dtaiAnswer (refused n) = dtai.Refused n
+
+-- a number that fits an i32: it stays what it is where it is stored
+pub record Kept (z : ℤ) : Type 0 where
+  pub kept : toZ w32 (ofZ w32 z) ≡ z
 
 -- ---- UTC to TAI
 
@@ -87,3 +94,16 @@ microsValue (micros.Refused n) = 0
 abbrev pub microsAnswer : Answer ℕ → MicrosAnswer
 microsAnswer (given t) = micros.Given (record { 0 = t })
 microsAnswer (refused n) = micros.Refused n
+
+-- ---- what is handed over of an answer
+
+-- a question hands over its number, and the value asked for or 0
+pub record HandsValue {A : Type 0} (zero : A) (answer : Answer A) (number : ℕ) (value : A) : Type 0 where
+  pub its-number : number ≡ numberOf answer
+  pub its-value : value ≡ orZero zero answer
+
+-- TAI to UTC hands over two: the day and its microseconds, or 0 and 0
+pub record HandsUtc (answer : Answer Utc) (number day micros : ℕ) : Type 0 where
+  pub its-number : number ≡ numberOf answer
+  pub its-day : day ≡ orZero (record { day = 0; micros = 0 }) answer .day
+  pub its-micros : micros ≡ orZero (record { day = 0; micros = 0 }) answer .micros

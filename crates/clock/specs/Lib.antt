@@ -7,4 +7,5 @@ pub mod Question
 pub mod Taken
 pub mod Lists
 pub mod Answers
+pub mod Many
 pub mod Inner

@@ -1,9 +1,14 @@
 // What a schedule says of a day, from one look at the schedule and one lookup in the calendar.
 ghost use mathlib.Core.Path.{_≡_};
-ghost use Prim.Native.Nat.{_+_, _-_, _≤_, _<_};
+ghost use Prim.Native.Nat.{ℕ, _+_, _-_, _≤_, _<_};
 ghost use Rattle.calendar.specs.Calendar.{firstDay, lastMonth, endDay, monthStart, InMonth};
 ghost use Rattle.clock.specs.Days.{dayLength, tai};
-ghost use Rattle.clock.specs.Inner.{endingBy, dayOn, DayFor};
+ghost use Rattle.clock.specs.Known.{lastDay};
+ghost use mathlib.Core.Bool.{true};
+ghost use Rattle.schedule.specs.Schedule.{wellFormed};
+ghost use Rattle.schedule.specs.WordLayout.{meant};
+ghost use Rattle.clock.specs.Inner.{SurveyedOn, endingBy, dayOn, DayFor};
+use crate::inplace::look_at;
 use crate::look::Survey;
 use crate::look::look;
 use crate::look::wide;
@@ -22,7 +27,7 @@ pub(crate) const MICROS_PER_DAY: u64 = 86_400_000_000;
 pub(crate) const LONG_DAY: u64 = 86_401_000_000;
 
 // A day of 86,399 s in microseconds: no day is shorter.
-const SHORT_DAY: u64 = 86_399_000_000;
+pub(crate) const SHORT_DAY: u64 = 86_399_000_000;
 
 // DTAI before any leap.
 pub(crate) const FIRST_DTAI: u32 = 10;
@@ -90,15 +95,11 @@ fn ending_by(v: Survey) -> Ending
     Ending::Ordinary
 }
 
-// What a schedule says of a day. Outside the calendar the lookup answers month 0, and only `well` and `last` mean something.
-pub(crate) fn day_at(s: Schedule, day: u64) -> Day
-    ensures { λ r. ⌜ DayFor s day r ⌝ }
+// What a schedule says of a day, by a look at it for the day, and its last day.
+pub(crate) fn day_by(v: Survey, last: u64) -> Day
+    ensures { λ r. ⌜ ((s : Schedule) (day : ℕ) → SurveyedOn s day v → (wellFormed s ≡ true → last ≡ lastDay s) → DayFor s day r) ⌝ }
 {
-    let found = calendar::month_of(day);
-    let month = found.month;
-    let v = look(s, month, next_month(day, month));
     let ending = ending_by(v);
-    let last = day_before(s.expiry);
     Day {
         well: v.well,
         up: v.up,
@@ -106,6 +107,26 @@ pub(crate) fn day_at(s: Schedule, day: u64) -> Day
         ending,
         last,
     }
+}
+
+// What a schedule says of a day. Outside the calendar the lookup answers month 0, and only `well` and `last` mean something.
+pub(crate) fn day_at(s: Schedule, day: u64) -> Day
+    ensures { λ r. ⌜ DayFor s day r ⌝ }
+{
+    let found = calendar::month_of(day);
+    let month = found.month;
+    let v = look(s, month, next_month(day, month));
+    day_by(v, day_before(s.expiry))
+}
+
+// What a schedule as words says of a day.
+pub(crate) fn day_in(words: &[u32; 514], day: u64) -> Day
+    ensures { λ r. ⌜ DayFor (meant (now (words .entry))) day r ⌝ }
+{
+    let found = calendar::month_of(day);
+    let month = found.month;
+    let v = look_at(words, wide(month), wide(next_month(day, month)));
+    day_by(v, day_before(words[513]))
 }
 
 // TAI at the start of a day.

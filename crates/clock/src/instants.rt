@@ -2,9 +2,10 @@
 ghost use mathlib.Core.Path.{_≡_};
 ghost use Rattle.clock.specs.Known.{knownTo};
 ghost use Rattle.clock.specs.Question.{given, atInstant, atUtc};
-ghost use Rattle.clock.specs.Inner.{DayFor, told};
+ghost use Rattle.clock.specs.Inner.{ListFor, DayFor, told};
 use crate::days::Day;
 use crate::days::LONG_DAY;
+use crate::days::SHORT_DAY;
 use crate::days::day_length;
 use calendar::FIRST_DAY;
 use refusals::BEFORE_1972;
@@ -26,12 +27,19 @@ pub(crate) fn is_known(last: u64, cutoff: u64, day: u64, t: u64) -> bool
     t < cutoff
 }
 
-// The number with which an instant of UTC or of UTS is refused, or 0: there is none from `limit` on, and on the last day it is known below
+// The number with which an instant of UTC or of UTS is refused, or 0, by whether the schedule is well formed and its last day: there is none from `limit` on, and on the last day it is known below
 // the cut-off.
-pub(crate) fn instant_refusal(k: Day, limit: u64, cutoff: u64, day: u64, t: u64) -> u8
-    ensures { λ r. ⌜ ((s : Schedule) → DayFor s day k → atInstant s limit cutoff day t (given tt) ≡ told r) ⌝ }
+pub(crate) fn instant_refusal(
+    well: bool,
+    last: u64,
+    limit: u64,
+    cutoff: u64,
+    day: u64,
+    t: u64,
+) -> u8
+    ensures { λ r. ⌜ ((s : Schedule) → ListFor s well last → atInstant s limit cutoff day t (given tt) ≡ told r) ⌝ }
 {
-    if !k.well {
+    if !well {
         return NOT_WELL_FORMED;
     }
     if day < FIRST_DAY {
@@ -40,7 +48,7 @@ pub(crate) fn instant_refusal(k: Day, limit: u64, cutoff: u64, day: u64, t: u64)
     if limit <= t {
         return NO_INSTANT;
     }
-    if !is_known(k.last, cutoff, day, t) {
+    if !is_known(last, cutoff, day, t) {
         return NOT_KNOWN;
     }
     0
@@ -50,9 +58,13 @@ pub(crate) fn instant_refusal(k: Day, limit: u64, cutoff: u64, day: u64, t: u64)
 pub(crate) fn utc_refusal(k: Day, cutoff: u64, day: u64, t: u64) -> u8
     ensures { λ r. ⌜ ((s : Schedule) → DayFor s day k → atUtc s cutoff day t tt ≡ told r) ⌝ }
 {
-    let number = instant_refusal(k, LONG_DAY, cutoff, day, t);
+    let number = instant_refusal(k.well, k.last, LONG_DAY, cutoff, day, t);
     if number != 0 {
         return number;
+    }
+    // Every day has so much, however it ends.
+    if t < SHORT_DAY {
+        return 0;
     }
     let w = k.ending;
     if t < day_length(w) { 0 } else { NO_INSTANT }

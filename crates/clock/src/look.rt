@@ -30,7 +30,7 @@ pub(crate) fn wide(x: u16) -> u32
 }
 
 // 0 if the gap from a month to another is 1 to 999, else 1.
-fn misfit(from: u32, to: u32) -> u32
+pub(crate) fn misfit(from: u32, to: u32) -> u32
     ensures { λ r. ⌜ (eqb r 0 ≡ gapFits from to) × (r ≤ 1) ⌝ }
 {
     if to <= from {
@@ -86,7 +86,7 @@ fn takes(l: Leap, month: u16) -> u16
     }
 }
 
-fn malformed() -> Survey
+pub(crate) fn malformed() -> Survey
     ensures { λ r. ⌜ r .well ≡ false ⌝ }
 {
     Survey {

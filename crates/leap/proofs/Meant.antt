@@ -15,7 +15,7 @@ use Rattle.schedule.specs.declared.Schedule.{Schedule}
 use Rattle.schedule.specs.Schedule.{noLeap, blankSchedule}
 use Rattle.schedule.proofs.Formed as formed
 use Rattle.schedule.proofs.Stores.{sets-append}
-use Rattle.leap.specs.Words.{standsForLeap, standForLeaps, leapAt, leapsAt, meant, countWord, expiryWord, wordOfSign, leapWords, wordsOf}
+use Rattle.schedule.specs.WordLayout.{standsForLeap, standForLeaps, leapAt, leapsAt, meant, countWord, expiryWord, wordOfSign, leapWords, wordsOf}
 
 and-false : (b : Bool) → (b && false) ≡ false
 and-false true = refl

@@ -1,23 +1,21 @@
 -- The words of a schedule stand for it: what a reader hands to C means the schedule that was read.
 -- Assumes nothing.
 use mathlib.Core.Path.{_≡_, refl, sym, ap, _∙_}
-use mathlib.Core.Bool.{true, and-eq-true-iff}
+use mathlib.Core.Bool.{true}
 use mathlib.Core.List.{List, [], _∷_, _++_}
-use Prim.Native.Nat.{ℕ, zero, suc, _+_, _*_, _-_, _≤_, _<_}
+use Prim.Native.Nat.{ℕ, zero, suc, _+_, _*_, _≤_, _<_}
 use native.Mathlib.Nat.{not-suc-le-zero, le-of-suc-le-suc}
 use native.Mathlib.Omega.{arith}
-use lib.Dec.{ltb}
-use lib.ListN.{length, getD, take, drop}
-use lib.Seq.{getD-take, getD-drop, take-suc, take-all, length-take-le}
-use borrow.Author.Tests.{lt-ltb, ltb-true, ltb-false, eqb-true}
+use lib.ListN.{length, getD, take}
+use lib.Seq.{take-suc, take-all}
+use borrow.Author.Tests.{lt-ltb}
 use Rattle.schedule.specs.declared.Sign.{Sign}
 use Rattle.schedule.specs.declared.Sign.the-variants.{Positive, Negative}
 use Rattle.schedule.specs.declared.Leap.{Leap}
 use Rattle.schedule.specs.declared.Schedule.{Schedule}
-use Rattle.schedule.specs.Schedule.{noLeap, leapsOf, gapsFit, isPositive, isUnused, allUnused, wellFormed}
-use Rattle.schedule.proofs.Cases.{by-bool}
-use Rattle.schedule.proofs.Gaps.{first, later, before-end, parts}
-use Rattle.leap.specs.Words.{monthWord, signWord, signOf, leapAt, leapsAt, standForLeaps, meant, wordOfSign, leapWords, wordsOf}
+use Rattle.schedule.specs.Schedule.{noLeap, wellFormed}
+use Rattle.schedule.proofs.WordLayout.{small-month}
+use Rattle.schedule.specs.WordLayout.{monthWord, signWord, signOf, leapAt, leapsAt, standForLeaps, meant, wordOfSign, leapWords, wordsOf}
 use Rattle.leap.proofs.Meant.{words-length}
 
 sign-back : (g : Sign) → signOf (wordOfSign g) ≡ g
@@ -53,35 +51,7 @@ module _ (rest : List ℕ) where
       let m : n ≡ suc (suc (2 * length ls + k)) = omega arith in
       rw m (after-leaps ls k (2 * length ls + k) refl)
 
--- every month of a well-formed schedule is at most 2400
-used-month : (ls : List Leap) (from expiry : ℕ) → gapsFit from ls expiry ≡ true → expiry ≤ 2400 → (i : ℕ) → i < length ls → getD ls i noLeap .month ≤ 2400
-used-month [] from expiry f e i h = absurd (not-suc-le-zero h)
-used-month (l ∷ ls) from expiry f e zero h = omega (arith, before-end ls (l .month) expiry (later from l ls expiry f))
-used-month (l ∷ ls) from expiry f e (suc i) h = used-month ls (l .month) expiry (later from l ls expiry f) e i (le-of-suc-le-suc h)
-
-unused-month : (ls : List Leap) → allUnused ls ≡ true → (i : ℕ) → getD ls i noLeap .month ≡ 0
-unfolding allUnused
-unused-month [] u i = refl
-unused-month (l ∷ ls) u zero =
-    eqb-true (l .month) 0 (and-eq-true-iff _ (isPositive (l .sign)) .0 (and-eq-true-iff (isUnused l) (allUnused ls) .0 u .0) .0)
-unused-month (l ∷ ls) u (suc i) = unused-month ls (and-eq-true-iff (isUnused l) (allUnused ls) .0 u .1) i
-
 module _ (s : Schedule) (full : length (s .leaps) ≡ 256) (w : wellFormed s ≡ true) where
-  small-month : (i : ℕ) → getD (s .leaps) i noLeap .month ≤ 2400
-  small-month i =
-      let p = parts s w in
-      let n : length (leapsOf s) ≡ s .count = length-take-le (s .count) (s .leaps) (omega (arith, p .room)) in
-      by-bool (ltb i (s .count))
-      (λ t.
-      let h = ltb-true i (s .count) t in
-      rw (getD-take (s .count) (s .leaps) i noLeap h) at (used-month (leapsOf s) 0 (s .expiry) (p .gaps) (p .end) i (omega arith)))
-      (λ t.
-      let h = ltb-false i (s .count) t in
-      let k : s .count + (i - s .count) ≡ i = omega arith in
-      let e = unused-month (drop (s .count) (s .leaps)) (p .rest) (i - s .count) in
-      let z : getD (s .leaps) i noLeap .month ≡ 0 = rw (getD-drop, k) at e in
-      omega arith)
-
   end : List ℕ
   end = s .count ∷ s .expiry ∷ []
 
@@ -99,7 +69,7 @@ module _ (s : Schedule) (full : length (s .leaps) ≡ 256) (w : wellFormed s ≡
   unfolding standForLeaps
   all-stand zero h = refl
   all-stand (suc n) h =
-      let m = small-month n in
+      let m = small-month s full w n in
       let g = sign-small (getD (s .leaps) n noLeap .sign) in
       rw (month-at end (s .leaps) n (omega arith), sign-at end (s .leaps) n (omega arith))
       (simp (all-stand n (omega arith), lt-ltb (getD (s .leaps) n noLeap .month) 65_536 (omega arith), lt-ltb (wordOfSign (getD (s .leaps) n noLeap .sign)) 2 g))

@@ -1,28 +1,25 @@
 // The C interface. A schedule is the C struct leap_schedule, 514 words; include/leap.h says what each function answers.
-use clock::DtaiAnswer;
-use clock::MicrosAnswer;
-use clock::TaiAnswer;
 use clock::TaiMicros;
-use clock::UtcAnswer;
 use clock::UtcMicros;
-use clock::UtsAnswer;
 use clock::UtsNanos;
+use clock::answers;
 use schedule::Leap;
 use schedule::Reading;
 use schedule::Schedule;
 use schedule::Sign;
 ghost use mathlib.Core.Path.{_≡_};
-ghost use Prim.Native.Nat.{_≤_};
+ghost use Prim.Native.Nat.{_≤_, min};
+ghost use lib.ListN.{length};
 ghost use Rattle.text.specs.Read.{readText};
 ghost use Rattle.text.specs.Write.{textOf};
 ghost use Rattle.nybbles.specs.Read.{readNybbles};
 ghost use Rattle.nybbles.specs.Write.{nybblesOf};
 ghost use lib.IntN.{pos};
+ghost use Rattle.clock.specs.Answers.{HandsValue, HandsUtc};
+ghost use Rattle.clock.specs.Many.{answerAt, answersAt, HandsMany, HandsManyUtc};
 ghost use Rattle.clock.specs.Question.{dtaiOn, utcToTai, taiToUtc, utcToUts, utsToUtc};
-ghost use Rattle.clock.specs.Answers.{dtaiNumber, dtaiValue, taiNumber, taiValue, utcNumber, utcDay, utcMicros, utsNumber, utsValue, microsNumber, microsValue};
-ghost use Rattle.leap.specs.Words.{signOf, meant, wordOfSign, wordsOf};
-ghost use Rattle.leap.specs.Inner.{Kept};
-ghost use Rattle.leap.specs.Calls.{HandsReading, HandsWriting, HandsValue, HandsUtc};
+ghost use Rattle.schedule.specs.WordLayout.{signOf, meant, wordOfSign, wordsOf};
+ghost use Rattle.leap.specs.Calls.{HandsReading, HandsWriting};
 
 // Words as wider and narrower numbers.
 fn size(x: u32) -> usize
@@ -147,114 +144,14 @@ pub extern "C" fn leap_write_nybbles(words: &[u32; 514], out: &mut [u8], count: 
     w.number
 }
 
-// The number and the values of each kind of answer.
-fn dtai_number(a: DtaiAnswer) -> u8
-    ensures { λ r. ⌜ r ≡ dtaiNumber a ⌝ }
-{
-    match a {
-        DtaiAnswer::Given(_) => 0,
-        DtaiAnswer::Refused(n) => n,
-    }
-}
-
-fn dtai_value(a: DtaiAnswer) -> i32
-    ensures { λ r. ⌜ (r ≡ dtaiValue a) × Kept r ⌝ }
-{
-    match a {
-        DtaiAnswer::Given(d) => d,
-        DtaiAnswer::Refused(_) => 0,
-    }
-}
-
-fn tai_number(a: TaiAnswer) -> u8
-    ensures { λ r. ⌜ r ≡ taiNumber a ⌝ }
-{
-    match a {
-        TaiAnswer::Given(_) => 0,
-        TaiAnswer::Refused(n) => n,
-    }
-}
-
-fn tai_value(a: TaiAnswer) -> u64
-    ensures { λ r. ⌜ r ≡ taiValue a ⌝ }
-{
-    match a {
-        TaiAnswer::Given(x) => x.0,
-        TaiAnswer::Refused(_) => 0,
-    }
-}
-
-fn utc_number(a: UtcAnswer) -> u8
-    ensures { λ r. ⌜ r ≡ utcNumber a ⌝ }
-{
-    match a {
-        UtcAnswer::Given(_, _) => 0,
-        UtcAnswer::Refused(n) => n,
-    }
-}
-
-fn utc_day(a: UtcAnswer) -> u64
-    ensures { λ r. ⌜ r ≡ utcDay a ⌝ }
-{
-    match a {
-        UtcAnswer::Given(day, _) => day,
-        UtcAnswer::Refused(_) => 0,
-    }
-}
-
-fn utc_micros(a: UtcAnswer) -> u64
-    ensures { λ r. ⌜ r ≡ utcMicros a ⌝ }
-{
-    match a {
-        UtcAnswer::Given(_, t) => t.0,
-        UtcAnswer::Refused(_) => 0,
-    }
-}
-
-fn uts_number(a: UtsAnswer) -> u8
-    ensures { λ r. ⌜ r ≡ utsNumber a ⌝ }
-{
-    match a {
-        UtsAnswer::Given(_) => 0,
-        UtsAnswer::Refused(n) => n,
-    }
-}
-
-fn uts_value(a: UtsAnswer) -> u64
-    ensures { λ r. ⌜ r ≡ utsValue a ⌝ }
-{
-    match a {
-        UtsAnswer::Given(u) => u.0,
-        UtsAnswer::Refused(_) => 0,
-    }
-}
-
-fn micros_number(a: MicrosAnswer) -> u8
-    ensures { λ r. ⌜ r ≡ microsNumber a ⌝ }
-{
-    match a {
-        MicrosAnswer::Given(_) => 0,
-        MicrosAnswer::Refused(n) => n,
-    }
-}
-
-fn micros_value(a: MicrosAnswer) -> u64
-    ensures { λ r. ⌜ r ≡ microsValue a ⌝ }
-{
-    match a {
-        MicrosAnswer::Given(t) => t.0,
-        MicrosAnswer::Refused(_) => 0,
-    }
-}
-
 // DTAI for a date.
 #[no_mangle]
 pub extern "C" fn leap_dtai(words: &[u32; 514], mjd: u64, dtai: &mut i32) -> u8
     ensures { λ n. ⌜ HandsValue (pos 0) (dtaiOn (meant (now (words .entry))) mjd) n (now (dtai .exit)) ⌝ }
 {
-    let a = clock::dtai(schedule_of(words), mjd);
-    *dtai = dtai_value(a);
-    dtai_number(a)
+    let a = clock::words::dtai(words, mjd);
+    *dtai = answers::dtai_value(a);
+    answers::dtai_number(a)
 }
 
 // UTC to TAI.
@@ -262,9 +159,9 @@ pub extern "C" fn leap_dtai(words: &[u32; 514], mjd: u64, dtai: &mut i32) -> u8
 pub extern "C" fn leap_utc_to_tai(words: &[u32; 514], mjd: u64, micros: u64, tai: &mut u64) -> u8
     ensures { λ n. ⌜ HandsValue 0 (utcToTai (meant (now (words .entry))) mjd micros) n (now (tai .exit)) ⌝ }
 {
-    let a = clock::utc_to_tai(schedule_of(words), mjd, UtcMicros(micros));
-    *tai = tai_value(a);
-    tai_number(a)
+    let a = clock::words::utc_to_tai(words, mjd, UtcMicros(micros));
+    *tai = answers::tai_value(a);
+    answers::tai_number(a)
 }
 
 // TAI to UTC.
@@ -277,10 +174,10 @@ pub extern "C" fn leap_tai_to_utc(
 ) -> u8
     ensures { λ n. ⌜ HandsUtc (taiToUtc (meant (now (words .entry))) tai) n (now (mjd .exit)) (now (micros .exit)) ⌝ }
 {
-    let a = clock::tai_to_utc(schedule_of(words), TaiMicros(tai));
-    *mjd = utc_day(a);
-    *micros = utc_micros(a);
-    utc_number(a)
+    let a = clock::words::tai_to_utc(words, TaiMicros(tai));
+    *mjd = answers::utc_day(a);
+    *micros = answers::utc_micros(a);
+    answers::utc_number(a)
 }
 
 // UTC to smoothed time.
@@ -288,9 +185,9 @@ pub extern "C" fn leap_tai_to_utc(
 pub extern "C" fn leap_utc_to_uts(words: &[u32; 514], mjd: u64, micros: u64, nanos: &mut u64) -> u8
     ensures { λ n. ⌜ HandsValue 0 (utcToUts (meant (now (words .entry))) mjd micros) n (now (nanos .exit)) ⌝ }
 {
-    let a = clock::utc_to_uts(schedule_of(words), mjd, UtcMicros(micros));
-    *nanos = uts_value(a);
-    uts_number(a)
+    let a = clock::words::utc_to_uts(words, mjd, UtcMicros(micros));
+    *nanos = answers::uts_value(a);
+    answers::uts_number(a)
 }
 
 // Smoothed time to UTC.
@@ -298,7 +195,76 @@ pub extern "C" fn leap_utc_to_uts(words: &[u32; 514], mjd: u64, micros: u64, nan
 pub extern "C" fn leap_uts_to_utc(words: &[u32; 514], mjd: u64, nanos: u64, micros: &mut u64) -> u8
     ensures { λ n. ⌜ HandsValue 0 (utsToUtc (meant (now (words .entry))) mjd nanos) n (now (micros .exit)) ⌝ }
 {
-    let a = clock::uts_to_utc(schedule_of(words), mjd, UtsNanos(nanos));
-    *micros = micros_value(a);
-    micros_number(a)
+    let a = clock::words::uts_to_utc(words, mjd, UtsNanos(nanos));
+    *micros = answers::micros_value(a);
+    answers::micros_number(a)
+}
+
+// DTAI for many dates.
+#[no_mangle]
+pub extern "C" fn leap_dtai_many(
+    words: &[u32; 514],
+    mjd: &[u64],
+    numbers: &mut [u8],
+    dtai: &mut [i32],
+) -> u64
+    ensures { λ n. ⌜ HandsMany (pos 0) (answerAt (dtaiOn (meant (now (words .entry)))) (now (mjd .entry))) (min (length (now (mjd .entry))) (min (length (now (numbers .entry))) (length (now (dtai .entry))))) (now (numbers .entry)) (now (dtai .entry)) n (now (numbers .exit)) (now (dtai .exit)) ⌝ }
+{
+    clock::many::dtai(words, mjd, numbers, dtai)
+}
+
+// UTC to TAI for many instants.
+#[no_mangle]
+pub extern "C" fn leap_utc_to_tai_many(
+    words: &[u32; 514],
+    mjd: &[u64],
+    micros: &[u64],
+    numbers: &mut [u8],
+    tai: &mut [u64],
+) -> u64
+    ensures { λ n. ⌜ HandsMany 0 (answersAt (utcToTai (meant (now (words .entry)))) (now (mjd .entry)) (now (micros .entry))) (min (min (length (now (mjd .entry))) (length (now (micros .entry)))) (min (length (now (numbers .entry))) (length (now (tai .entry))))) (now (numbers .entry)) (now (tai .entry)) n (now (numbers .exit)) (now (tai .exit)) ⌝ }
+{
+    clock::many::utc_to_tai(words, mjd, micros, numbers, tai)
+}
+
+// TAI to UTC for many.
+#[no_mangle]
+pub extern "C" fn leap_tai_to_utc_many(
+    words: &[u32; 514],
+    tai: &[u64],
+    numbers: &mut [u8],
+    mjd: &mut [u64],
+    micros: &mut [u64],
+) -> u64
+    ensures { λ n. ⌜ HandsManyUtc (answerAt (taiToUtc (meant (now (words .entry)))) (now (tai .entry))) (min (min (length (now (tai .entry))) (length (now (numbers .entry)))) (min (length (now (mjd .entry))) (length (now (micros .entry))))) (now (numbers .entry)) (now (mjd .entry)) (now (micros .entry)) n (now (numbers .exit)) (now (mjd .exit)) (now (micros .exit)) ⌝ }
+{
+    clock::many::tai_to_utc(words, tai, numbers, mjd, micros)
+}
+
+// UTC to smoothed time for many instants.
+#[no_mangle]
+pub extern "C" fn leap_utc_to_uts_many(
+    words: &[u32; 514],
+    mjd: &[u64],
+    micros: &[u64],
+    numbers: &mut [u8],
+    nanos: &mut [u64],
+) -> u64
+    ensures { λ n. ⌜ HandsMany 0 (answersAt (utcToUts (meant (now (words .entry)))) (now (mjd .entry)) (now (micros .entry))) (min (min (length (now (mjd .entry))) (length (now (micros .entry)))) (min (length (now (numbers .entry))) (length (now (nanos .entry))))) (now (numbers .entry)) (now (nanos .entry)) n (now (numbers .exit)) (now (nanos .exit)) ⌝ }
+{
+    clock::many::utc_to_uts(words, mjd, micros, numbers, nanos)
+}
+
+// Smoothed time to UTC for many instants.
+#[no_mangle]
+pub extern "C" fn leap_uts_to_utc_many(
+    words: &[u32; 514],
+    mjd: &[u64],
+    nanos: &[u64],
+    numbers: &mut [u8],
+    micros: &mut [u64],
+) -> u64
+    ensures { λ n. ⌜ HandsMany 0 (answersAt (utsToUtc (meant (now (words .entry)))) (now (mjd .entry)) (now (nanos .entry))) (min (min (length (now (mjd .entry))) (length (now (nanos .entry)))) (min (length (now (numbers .entry))) (length (now (micros .entry))))) (now (numbers .entry)) (now (micros .entry)) n (now (numbers .exit)) (now (micros .exit)) ⌝ }
+{
+    clock::many::uts_to_utc(words, mjd, nanos, numbers, micros)
 }

@@ -2,6 +2,7 @@
 pub mod Cases
 pub mod Gaps
 pub mod Formed
+pub mod WordLayout
 pub mod Adds
 pub mod Sound
 pub mod Words

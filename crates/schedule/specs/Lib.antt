@@ -1,4 +1,5 @@
 pub mod Schedule
 pub mod Extends
 pub mod Words
+pub mod WordLayout
 pub mod Answers

@@ -1,13 +1,15 @@
 //! `compare [CALLS [SEED]]` makes the same calls of the proved archive and of the
 //! second program, and compares all that they return and every byte and word
-//! that they may change. Where they differ it prints the smallest case that it
-//! finds, as a test to paste, and ends with status 1.
+//! that they may change. What the archive is asked in one call, the second
+//! program is asked one by one. Where they differ it prints the smallest case
+//! that it finds, as a test to paste, and ends with status 1.
 //!
 //! The calls follow from the seed alone. With COMPARE_TRACE set, each is shown
 //! before it is made: the last one shown is the one that stopped the program.
 
 mod call;
 mod lists;
+mod many;
 mod pairs;
 mod paste;
 mod random;
@@ -19,13 +21,14 @@ mod times;
 
 use std::process::ExitCode;
 
-use call::{archive, second, Call, Format, Program};
+use call::{archive, second, Call, Format, Kind, Program, Question};
+use many::Many;
 use pairs::Pair;
 use random::Random;
 use shrink::shrink;
 use tally::Tally;
 
-const CALLS: u64 = 250_000;
+const CALLS: u64 = 350_000;
 const SEED: u64 = 1972;
 
 /// Lists or schedules of one kind, and their share of the calls.
@@ -97,6 +100,31 @@ fn compare(call: &Call, tally: &mut Tally) -> Result<(), String> {
     Ok(())
 }
 
+/// Asks the questions once more, those of each kind in one call.
+fn compare_many(
+    words: &leap::ffi::Words,
+    questions: &[Question],
+    random: &mut Random,
+    tally: &mut Tally,
+) -> Result<(), String> {
+    for kind in Kind::ALL {
+        if questions.iter().all(|q| q.kind != kind) {
+            continue;
+        }
+        let many = Many::of(words, kind, questions, random);
+        if std::env::var_os("COMPARE_TRACE").is_some() {
+            eprint!("{}", paste::many_made(&many));
+        }
+        let expected = many.second();
+        if many.archive() != expected {
+            let test = paste::many(&shrink(many, Many::differs));
+            return Err(format!("the programs differ:\n\n{test}"));
+        }
+        tally.add_many(many.name(), many.answered(&expected));
+    }
+    Ok(())
+}
+
 /// Writes a schedule into rooms about its length, and asks it questions.
 fn use_words(
     words: &leap::ffi::Words,
@@ -113,20 +141,23 @@ fn use_words(
         };
         compare(&Call::Write(format, Box::new(*words), room), tally)?;
     }
-    for _ in 0..10 {
-        let question = times::question(random, words);
+    let questions = times::kinds(random).map(|kind| times::question(random, words, kind));
+    for question in questions {
         compare(&Call::Ask(Box::new(*words), question), tally)?;
     }
-    Ok(())
+    compare_many(words, &questions, random, tally)
 }
 
 /// Asks the longer and the shorter list the same, and holds demand 3 to it.
 fn use_extension(make: MakePair, random: &mut Random, tally: &mut Tally) -> Result<(), String> {
     let (longer, shorter) = make(random);
-    for _ in 0..10 {
+    let questions = times::kinds(random).map(|kind| {
         let edge_of = if random.one_in(3) { &longer } else { &shorter };
+        times::question(random, edge_of, kind)
+    });
+    for question in questions {
         let pair = Pair {
-            question: times::question(random, edge_of),
+            question,
             longer: longer.clone(),
             shorter: shorter.clone(),
         };
@@ -141,7 +172,8 @@ fn use_extension(make: MakePair, random: &mut Random, tally: &mut Tally) -> Resu
             }
         }
     }
-    Ok(())
+    compare_many(&longer, &questions, random, tally)?;
+    compare_many(&shorter, &questions, random, tally)
 }
 
 /// Asks two contradicting lists for the DTAI by which they part.

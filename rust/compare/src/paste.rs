@@ -3,6 +3,7 @@
 use std::fmt::Display;
 
 use crate::call::{archive, second, Call, Kind, Outcome, Program, FILL, FILL_DTAI, GUARD};
+use crate::many::{Many, EDGE, FILL_NUMBER};
 use crate::pairs::Pair;
 
 /// A test of that name with these lines in it.
@@ -155,6 +156,79 @@ pub fn call(call: &Call) -> String {
 /// A call, to be looked at before it is made.
 pub fn made(call: &Call) -> String {
     test(call.name(), call_lines(call, "_got"))
+}
+
+/// The lines that make a call with many questions and put what it returns into
+/// `count`.
+fn many_lines(many: &Many, count: &str) -> Vec<String> {
+    let array = |name: &str, fill: &str, length: usize| {
+        format!("let mut {name} = [{fill}; {}];", length + 2 * EDGE)
+    };
+    let lent = |name: &str, length: usize| format!("&mut {name}[{EDGE}..{}]", EDGE + length);
+    let (dtai, fill) = (format!("{FILL_DTAI:#x}i32"), format!("{FILL:#x}u64"));
+    let (firsts, seconds) = (&many.firsts, &many.seconds);
+    let numbers = lent("numbers", many.numbers);
+    let (ones, twos) = (lent("ones", many.ones), lent("twos", many.twos));
+    let mut lines = words_lines("words", &many.words[..]);
+    let number = format!("{FILL_NUMBER:#x}u8");
+    lines.push(array("numbers", &number, many.numbers));
+    let arguments = match many.kind {
+        Kind::Dtai => {
+            lines.push(array("ones", &dtai, many.ones));
+            format!("&{firsts:?}, {numbers}, {ones}")
+        }
+        Kind::TaiToUtc => {
+            lines.push(array("ones", &fill, many.ones));
+            lines.push(array("twos", &fill, many.twos));
+            format!("&{firsts:?}, {numbers}, {ones}, {twos}")
+        }
+        _ => {
+            lines.push(array("ones", &fill, many.ones));
+            format!("&{firsts:?}, &{seconds:?}, {numbers}, {ones}")
+        }
+    };
+    let name = many.name();
+    lines.push(format!(
+        "let {count} = leap::ffi::{name}(&words, {arguments});"
+    ));
+    lines
+}
+
+/// A call with many questions on which the programs differ.
+pub fn many(many: &Many) -> String {
+    let (got, expected) = (many.archive(), many.second());
+    let claim = |name: &str, expected: String, got: String| {
+        format!("assert_eq!({name}, {expected}); // the archive gave {got}")
+    };
+    let mut lines = many_lines(many, "count");
+    lines.push(claim(
+        "count",
+        expected.count.to_string(),
+        got.count.to_string(),
+    ));
+    lines.push(claim(
+        "numbers",
+        format!("{:?}", expected.numbers),
+        differences(&got.numbers, &expected.numbers),
+    ));
+    lines.push(claim(
+        "ones",
+        format!("{:?}", expected.ones),
+        differences(&got.ones, &expected.ones),
+    ));
+    if many.kind == Kind::TaiToUtc {
+        lines.push(claim(
+            "twos",
+            format!("{:?}", expected.twos),
+            differences(&got.twos, &expected.twos),
+        ));
+    }
+    test(&format!("{}_as_the_second_program", many.name()), lines)
+}
+
+/// A call with many questions, to be looked at before it is made.
+pub fn many_made(many: &Many) -> String {
+    test(many.name(), many_lines(many, "_count"))
 }
 
 /// Two calls that one program answers against demand 3.

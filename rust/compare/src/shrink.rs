@@ -3,6 +3,7 @@
 use leap::ffi::Words;
 
 use crate::call::{second, Call, Kind, Question};
+use crate::many::Many;
 use crate::pairs::Pair;
 use crate::schedules::{leaps_of, COUNT, EXPIRY, LAST_MONTH, MAX_LEAPS};
 use crate::smaller;
@@ -218,5 +219,75 @@ impl Shrink for Pair {
             ..self.clone()
         });
         Box::new(both.chain(longer).chain(shorter).chain(asked))
+    }
+}
+
+/// A call with many questions, each of them changed.
+fn each(many: &Many, change: impl Fn(Question) -> Question) -> Many {
+    let mut changed = many.clone();
+    for at in 0..many.firsts.len() {
+        put(&mut changed, at, change(many.question(at)));
+    }
+    changed
+}
+
+fn put(many: &mut Many, at: usize, question: Question) {
+    many.firsts[at] = question.first;
+    if let Some(second) = many.seconds.get_mut(at) {
+        *second = question.second;
+    }
+}
+
+/// Without the questions `from..to`, and without their places.
+fn without(many: &Many, from: usize, to: usize) -> Many {
+    let mut fewer = many.clone();
+    let cut = |length: usize| length - (to.min(length) - from.min(length));
+    fewer.firsts.drain(from..to);
+    let seconds = from.min(many.seconds.len())..to.min(many.seconds.len());
+    fewer.seconds.drain(seconds);
+    fewer.numbers = cut(many.numbers);
+    fewer.ones = cut(many.ones);
+    fewer.twos = cut(many.twos);
+    fewer
+}
+
+/// With one of the arrays an element shorter.
+fn tighter(many: &Many) -> Vec<Many> {
+    let mut all = vec![many.clone(); 5];
+    all[0].firsts.pop();
+    all[1].seconds.pop();
+    all[2].numbers = many.numbers.saturating_sub(1);
+    all[3].ones = many.ones.saturating_sub(1);
+    all[4].twos = many.twos.saturating_sub(1);
+    all.retain(|shorter| shorter != many);
+    all
+}
+
+impl Shrink for Many {
+    fn smaller(&self) -> Box<dyn Iterator<Item = Many> + '_> {
+        let length = self.firsts.len();
+        let halves = [(0, length / 2), (length / 2, length)];
+        let cuts = halves.into_iter().filter(|(from, to)| from < to);
+        let fewer = cuts
+            .chain((0..length).map(|at| (at, at + 1)))
+            .map(|(from, to)| without(self, from, to));
+        let lists = edits(&self.words).into_iter().flat_map(move |edit| {
+            let words = edited(&self.words, edit);
+            (0..3).map(move |way| Many {
+                words: words.clone(),
+                ..each(self, |question| {
+                    let ways = moved(question, edit);
+                    ways[way.min(ways.len() - 1)]
+                })
+            })
+        });
+        let simpler = (0..length).flat_map(move |at| {
+            smaller_questions(self.question(at)).map(move |question| {
+                let mut many = self.clone();
+                put(&mut many, at, question);
+                many
+            })
+        });
+        Box::new(fewer.chain(tighter(self)).chain(lists).chain(simpler))
     }
 }

@@ -122,7 +122,7 @@ fn joined(format: Format, one: &Gap, next: &Gap) -> Option<Vec<u8>> {
     match format {
         Format::Text if months <= 999 => Some(months.to_string().into_bytes()),
         Format::Nybbles if months <= 16 => wide(4, months),
-        Format::Nybbles if months % 6 == 0 && months <= 96 => wide(0, months / 6),
+        Format::Nybbles if months.is_multiple_of(6) && months <= 96 => wide(0, months / 6),
         _ => None,
     }
 }

@@ -3,8 +3,8 @@
 use std::collections::BTreeMap;
 use std::fmt;
 
-/// The numbers that 01 lets each function return.
-const RESULTS: [(&str, &[u8]); 9] = [
+/// The numbers that 01 lets each function return, or put into an array.
+const RESULTS: [(&str, &[u8]); 14] = [
     ("read_text", &[0, 1, 2, 3, 4, 5, 6]),
     ("read_nybbles", &[0, 1, 3, 4, 5, 6]),
     ("write_text", &[0, 7, 11]),
@@ -14,6 +14,11 @@ const RESULTS: [(&str, &[u8]); 9] = [
     ("tai_to_utc", &[0, 8, 10, 11]),
     ("utc_to_uts", &[0, 8, 9, 10, 11]),
     ("uts_to_utc", &[0, 8, 9, 10, 11]),
+    ("dtai_many", &[0, 8, 10, 11]),
+    ("utc_to_tai_many", &[0, 8, 9, 10, 11]),
+    ("tai_to_utc_many", &[0, 8, 10, 11]),
+    ("utc_to_uts_many", &[0, 8, 9, 10, 11]),
+    ("uts_to_utc_many", &[0, 8, 9, 10, 11]),
 ];
 
 pub struct Tally {
@@ -37,8 +42,15 @@ impl Tally {
     }
 
     pub fn add(&mut self, name: &'static str, number: u8) {
+        self.add_many(name, &[number]);
+    }
+
+    /// One call with these numbers.
+    pub fn add_many(&mut self, name: &'static str, numbers: &[u8]) {
         self.sources[self.turn].1 += 1;
-        *self.results.entry((name, number)).or_default() += 1;
+        for &number in numbers {
+            *self.results.entry((name, number)).or_default() += 1;
+        }
     }
 
     /// Calls of the present source.
@@ -72,7 +84,7 @@ impl fmt::Display for Tally {
                 .iter()
                 .map(|n| format!("{n} x {}", met(n)))
                 .collect();
-            writeln!(f, "{name} returned {}", counts.join(", "))?;
+            writeln!(f, "{name} gave {}", counts.join(", "))?;
         }
         Ok(())
     }

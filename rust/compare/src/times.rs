@@ -162,8 +162,15 @@ fn tai(random: &mut Random, words: &Words) -> u64 {
     }
 }
 
-pub fn question(random: &mut Random, words: &Words) -> Question {
-    let kind = random.pick(&Kind::ALL);
+/// The kinds of ten questions: all the same, or any.
+pub fn kinds(random: &mut Random) -> [Kind; 10] {
+    match random.one_in(2) {
+        true => [random.pick(&Kind::ALL); 10],
+        false => std::array::from_fn(|_| random.pick(&Kind::ALL)),
+    }
+}
+
+pub fn question(random: &mut Random, words: &Words, kind: Kind) -> Question {
     let first = match kind {
         Kind::TaiToUtc => tai(random, words),
         _ => day(random, words),

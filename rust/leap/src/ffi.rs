@@ -1,5 +1,6 @@
-//! The calls of `leap.h` as they are, with nothing added: each returns 0 or the
-//! number of a refusal and sets every output. All unsafe code is here.
+//! The calls of `leap.h` as they are, with nothing added. Each returns 0 or the
+//! number of a refusal and sets every output; those for many questions return
+//! how many they answered or refused. All unsafe code is here.
 //!
 //! A Rust reference is never null, is aligned, and a `&mut` overlaps no other
 //! reference, which is all that the header asks of its callers.
@@ -18,6 +19,59 @@ extern "C" {
     fn leap_tai_to_utc(s: *const Words, tai: u64, mjd: *mut u64, micros: *mut u64) -> u8;
     fn leap_utc_to_uts(s: *const Words, mjd: u64, micros: u64, nanos: *mut u64) -> u8;
     fn leap_uts_to_utc(s: *const Words, mjd: u64, nanos: u64, micros: *mut u64) -> u8;
+    fn leap_dtai_many(
+        s: *const Words,
+        mjd: *const u64,
+        mjd_length: usize,
+        numbers: *mut u8,
+        numbers_length: usize,
+        dtai: *mut i32,
+        dtai_length: usize,
+    ) -> u64;
+    fn leap_utc_to_tai_many(
+        s: *const Words,
+        mjd: *const u64,
+        mjd_length: usize,
+        micros: *const u64,
+        micros_length: usize,
+        numbers: *mut u8,
+        numbers_length: usize,
+        tai: *mut u64,
+        tai_length: usize,
+    ) -> u64;
+    fn leap_tai_to_utc_many(
+        s: *const Words,
+        tai: *const u64,
+        tai_length: usize,
+        numbers: *mut u8,
+        numbers_length: usize,
+        mjd: *mut u64,
+        mjd_length: usize,
+        micros: *mut u64,
+        micros_length: usize,
+    ) -> u64;
+    fn leap_utc_to_uts_many(
+        s: *const Words,
+        mjd: *const u64,
+        mjd_length: usize,
+        micros: *const u64,
+        micros_length: usize,
+        numbers: *mut u8,
+        numbers_length: usize,
+        nanos: *mut u64,
+        nanos_length: usize,
+    ) -> u64;
+    fn leap_uts_to_utc_many(
+        s: *const Words,
+        mjd: *const u64,
+        mjd_length: usize,
+        nanos: *const u64,
+        nanos_length: usize,
+        numbers: *mut u8,
+        numbers_length: usize,
+        micros: *mut u64,
+        micros_length: usize,
+    ) -> u64;
 }
 
 /// Reads a text list. `place` is the byte of a refusal.
@@ -72,4 +126,117 @@ pub fn utc_to_uts(s: &Words, mjd: u64, micros: u64, nanos: &mut u64) -> u8 {
 pub fn uts_to_utc(s: &Words, mjd: u64, nanos: u64, micros: &mut u64) -> u8 {
     // SAFETY: see above.
     unsafe { leap_uts_to_utc(s, mjd, nanos, micros) }
+}
+
+/// [`dtai`] of each day: its number and its value, as far as the shortest slice
+/// goes. Gives that length; elements beyond it stay.
+pub fn dtai_many(s: &Words, mjd: &[u64], numbers: &mut [u8], dtai: &mut [i32]) -> u64 {
+    // SAFETY: see above; each length is the slice's own.
+    unsafe {
+        leap_dtai_many(
+            s,
+            mjd.as_ptr(),
+            mjd.len(),
+            numbers.as_mut_ptr(),
+            numbers.len(),
+            dtai.as_mut_ptr(),
+            dtai.len(),
+        )
+    }
+}
+
+/// [`utc_to_tai`] of each instant, with lengths as in [`dtai_many`].
+pub fn utc_to_tai_many(
+    s: &Words,
+    mjd: &[u64],
+    micros: &[u64],
+    numbers: &mut [u8],
+    tai: &mut [u64],
+) -> u64 {
+    // SAFETY: see above; each length is the slice's own.
+    unsafe {
+        leap_utc_to_tai_many(
+            s,
+            mjd.as_ptr(),
+            mjd.len(),
+            micros.as_ptr(),
+            micros.len(),
+            numbers.as_mut_ptr(),
+            numbers.len(),
+            tai.as_mut_ptr(),
+            tai.len(),
+        )
+    }
+}
+
+/// [`tai_to_utc`] of each TAI, with lengths as in [`dtai_many`].
+pub fn tai_to_utc_many(
+    s: &Words,
+    tai: &[u64],
+    numbers: &mut [u8],
+    mjd: &mut [u64],
+    micros: &mut [u64],
+) -> u64 {
+    // SAFETY: see above; each length is the slice's own.
+    unsafe {
+        leap_tai_to_utc_many(
+            s,
+            tai.as_ptr(),
+            tai.len(),
+            numbers.as_mut_ptr(),
+            numbers.len(),
+            mjd.as_mut_ptr(),
+            mjd.len(),
+            micros.as_mut_ptr(),
+            micros.len(),
+        )
+    }
+}
+
+/// [`utc_to_uts`] of each instant, with lengths as in [`dtai_many`].
+pub fn utc_to_uts_many(
+    s: &Words,
+    mjd: &[u64],
+    micros: &[u64],
+    numbers: &mut [u8],
+    nanos: &mut [u64],
+) -> u64 {
+    // SAFETY: see above; each length is the slice's own.
+    unsafe {
+        leap_utc_to_uts_many(
+            s,
+            mjd.as_ptr(),
+            mjd.len(),
+            micros.as_ptr(),
+            micros.len(),
+            numbers.as_mut_ptr(),
+            numbers.len(),
+            nanos.as_mut_ptr(),
+            nanos.len(),
+        )
+    }
+}
+
+/// [`uts_to_utc`] of each UTS, with lengths as in [`dtai_many`].
+pub fn uts_to_utc_many(
+    s: &Words,
+    mjd: &[u64],
+    nanos: &[u64],
+    numbers: &mut [u8],
+    micros: &mut [u64],
+) -> u64 {
+    // SAFETY: see above; each length is the slice's own.
+    unsafe {
+        leap_uts_to_utc_many(
+            s,
+            mjd.as_ptr(),
+            mjd.len(),
+            nanos.as_ptr(),
+            nanos.len(),
+            numbers.as_mut_ptr(),
+            numbers.len(),
+            micros.as_mut_ptr(),
+            micros.len(),
+        )
+    }
 }

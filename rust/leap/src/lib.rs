@@ -31,6 +31,26 @@
 //! # Ok::<(), ReadError>(())
 //! ```
 //!
+//! Many instants are asked in one call, which checks the schedule only once
+//! (and which [`ffi`] has over slices that the caller lends):
+//!
+//! ```
+//! use leap::{Mjd, Refusal, Schedule, TaiMicros, UtcMicros};
+//!
+//! let schedule = Schedule::from_text(b"6+5?")?;
+//! let instants = [
+//!     (Mjd(41_316), UtcMicros(0)),
+//!     (Mjd(41_317), UtcMicros(0)),
+//!     (Mjd(41_498), UtcMicros(86_400_000_000)),
+//! ];
+//! assert_eq!(schedule.utc_to_tai_many(&instants), [
+//!     Err(Refusal::Before1972),
+//!     Ok(TaiMicros(10_000_000)),
+//!     Ok(TaiMicros(15_724_810_000_000)),
+//! ]);
+//! # Ok::<(), leap::ReadError>(())
+//! ```
+//!
 //! A schedule made from parts is checked by whatever it is asked:
 //!
 //! ```
@@ -60,6 +80,7 @@
 #![deny(missing_docs)]
 
 pub mod ffi;
+mod many;
 mod refusal;
 mod schedule;
 

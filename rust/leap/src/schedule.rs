@@ -277,7 +277,7 @@ impl fmt::Debug for Schedule {
 }
 
 /// The number that a call returned, as a result.
-fn answer(number: u8) -> Result<(), Refusal> {
+pub(crate) fn answer(number: u8) -> Result<(), Refusal> {
     match number {
         0 => Ok(()),
         _ => Err(Refusal::from_number(number).expect("the archive refuses with 1 to 11")),

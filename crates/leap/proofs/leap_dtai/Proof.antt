@@ -2,11 +2,8 @@
 use mathlib.Core.Path.{_∙_}
 use borrow.Author.Needs.{needs}
 use lib.IntN.{pos}
-use Rattle.schedule.specs.declared.Schedule.{Schedule}
-use Rattle.clock.specs.Question.{dtaiOn}
 use Rattle.clock.specs.Answers.{dtaiAnswer, dtaiNumber, dtaiValue}
-use Rattle.clock.proofs.Numbers.{dtai-told}
-use Rattle.leap.proofs.Handed.{hands-value}
+use Rattle.clock.proofs.Numbers.{dtai-told, hands-value}
 use Rattle.leap.proofs.leap_dtai.Statement.{statement}
 use Rattle.leap.proofs.leap_dtai.Tie as tie
 
@@ -17,6 +14,4 @@ leap-dtai-spec =
     (λ c κs. search needs)
     (λ c κs. search needs)
     (λ c κs. search needs)
-    (λ c κs. search needs)
-    (λ c. let a = c .before .before .before .before .args in
-    hands-value (pos 0) dtaiAnswer dtaiNumber dtaiValue dtai-told (λ (s : Schedule). dtaiOn s (a .mjd)) _ _ (c .before .before .before .schedule-of .ensures) _ (c .before .before .dtai .ensures) _ (c .dtai-number .ensures) _ (c .before .dtai-value .ensures .1 .kept ∙ c .before .dtai-value .ensures .0)))
+    (λ c. hands-value (pos 0) dtaiAnswer dtaiNumber dtaiValue dtai-told _ _ (c .before .before .dtai .ensures) _ (c .dtai-number .ensures) _ (c .before .dtai-value .ensures .1 .kept ∙ c .before .dtai-value .ensures .0)))

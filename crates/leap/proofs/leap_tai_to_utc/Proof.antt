@@ -1,8 +1,6 @@
 -- `leap::leap_tai_to_utc` meets its contract. Assumes nothing.
 use borrow.Author.Needs.{needs}
-use Rattle.schedule.specs.declared.Schedule.{Schedule}
-use Rattle.clock.specs.Question.{taiToUtc}
-use Rattle.leap.proofs.Handed.{hands-utc}
+use Rattle.clock.proofs.Numbers.{hands-utc}
 use Rattle.leap.proofs.leap_tai_to_utc.Statement.{statement}
 use Rattle.leap.proofs.leap_tai_to_utc.Tie as tie
 
@@ -14,6 +12,4 @@ leap-tai-to-utc-spec =
     (λ c κs. search needs)
     (λ c κs. search needs)
     (λ c κs. search needs)
-    (λ c κs. search needs)
-    (λ c. let a = c .before .before .before .before .before .args in
-    hands-utc (λ (s : Schedule). taiToUtc s (a .tai)) _ _ (c .before .before .before .before .schedule-of .ensures) _ (c .before .before .before .tai-to-utc .ensures) _ _ _ (c .utc-number .ensures) (c .before .before .utc-day .ensures) (c .before .utc-micros .ensures)))
+    (λ c. hands-utc _ _ (c .before .before .before .tai-to-utc .ensures) _ _ _ (c .utc-number .ensures) (c .before .before .utc-day .ensures) (c .before .utc-micros .ensures)))

@@ -1,10 +1,7 @@
 -- `leap::leap_utc_to_tai` meets its contract. Assumes nothing.
 use borrow.Author.Needs.{needs}
-use Rattle.schedule.specs.declared.Schedule.{Schedule}
-use Rattle.clock.specs.Question.{utcToTai}
 use Rattle.clock.specs.Answers.{taiAnswer, taiNumber, taiValue}
-use Rattle.clock.proofs.Numbers.{tai-told}
-use Rattle.leap.proofs.Handed.{hands-value}
+use Rattle.clock.proofs.Numbers.{tai-told, hands-value}
 use Rattle.leap.proofs.leap_utc_to_tai.Statement.{statement}
 use Rattle.leap.proofs.leap_utc_to_tai.Tie as tie
 
@@ -15,6 +12,4 @@ leap-utc-to-tai-spec =
     (λ c κs. search needs)
     (λ c κs. search needs)
     (λ c κs. search needs)
-    (λ c κs. search needs)
-    (λ c. let a = c .before .before .before .before .args in
-    hands-value 0 taiAnswer taiNumber taiValue tai-told (λ (s : Schedule). utcToTai s (a .mjd) (a .micros)) _ _ (c .before .before .before .schedule-of .ensures) _ (c .before .before .utc-to-tai .ensures) _ (c .tai-number .ensures) _ (c .before .tai-value .ensures)))
+    (λ c. hands-value 0 taiAnswer taiNumber taiValue tai-told _ _ (c .before .before .utc-to-tai .ensures) _ (c .tai-number .ensures) _ (c .before .tai-value .ensures)))

@@ -1,10 +1,7 @@
 -- `leap::leap_uts_to_utc` meets its contract. Assumes nothing.
 use borrow.Author.Needs.{needs}
-use Rattle.schedule.specs.declared.Schedule.{Schedule}
-use Rattle.clock.specs.Question.{utsToUtc}
 use Rattle.clock.specs.Answers.{microsAnswer, microsNumber, microsValue}
-use Rattle.clock.proofs.Numbers.{micros-told}
-use Rattle.leap.proofs.Handed.{hands-value}
+use Rattle.clock.proofs.Numbers.{micros-told, hands-value}
 use Rattle.leap.proofs.leap_uts_to_utc.Statement.{statement}
 use Rattle.leap.proofs.leap_uts_to_utc.Tie as tie
 
@@ -15,6 +12,4 @@ leap-uts-to-utc-spec =
     (λ c κs. search needs)
     (λ c κs. search needs)
     (λ c κs. search needs)
-    (λ c κs. search needs)
-    (λ c. let a = c .before .before .before .before .args in
-    hands-value 0 microsAnswer microsNumber microsValue micros-told (λ (s : Schedule). utsToUtc s (a .mjd) (a .nanos)) _ _ (c .before .before .before .schedule-of .ensures) _ (c .before .before .uts-to-utc .ensures) _ (c .micros-number .ensures) _ (c .before .micros-value .ensures)))
+    (λ c. hands-value 0 microsAnswer microsNumber microsValue micros-told _ _ (c .before .before .uts-to-utc .ensures) _ (c .micros-number .ensures) _ (c .before .micros-value .ensures)))

@@ -6,7 +6,7 @@ use native.Mathlib.Omega.{arith}
 use borrow.Author.Needs.{needs}
 use borrow.Author.Tests.{lt-ltb, le-ltb}
 use lib.ListN.{length, take, length-set}
-use Rattle.leap.specs.Words.{standsForLeap, standForLeaps, leapsAt}
+use Rattle.schedule.specs.WordLayout.{standsForLeap, standForLeaps, leapsAt}
 use Rattle.leap.proofs.Meant as laws
 use Rattle.leap.proofs.schedule_of.Statement.{statement}
 use Rattle.leap.proofs.schedule_of.Tie as tie

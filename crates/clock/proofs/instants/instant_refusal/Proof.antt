@@ -10,35 +10,35 @@ use Rattle.clock.proofs.instants.instant_refusal.Statement.{statement}
 use Rattle.clock.proofs.instants.instant_refusal.Tie as tie
 
 returns : tie.Need-returns
-returns c s f = stop _ notWellFormed (failed (f .well) (c .if1 .taken))
+returns c s f = stop _ notWellFormed (failed (f .is-well) (c .if1 .taken))
 
 returns-2 : tie.Need-returns-2
 returns-2 c s f =
-    pass notWellFormed (passed (f .well) (c .before .if1 .left)) ∙ stop _ before1972 (lt-leb firstDay _ (c .if2 .taken))
+    pass notWellFormed (passed (f .is-well) (c .before .if1 .left)) ∙ stop _ before1972 (lt-leb firstDay _ (c .if2 .taken))
 
 returns-3 : tie.Need-returns-3
 returns-3 c s f =
-    pass notWellFormed (passed (f .well) (c .before .before .if1 .left))
+    pass notWellFormed (passed (f .is-well) (c .before .before .if1 .left))
     ∙ pass before1972 (le-leb firstDay _ (c .before .if2 .left))
     ∙ stop _ noInstant (le-ltb _ _ (c .if3 .taken))
 
 returns-4 : tie.Need-returns-4
 returns-4 c s f =
     let o = c .before .before in
-    let w = passed (f .well) (o .before .before .if1 .left) in
+    let w = passed (f .is-well) (o .before .before .if1 .left) in
     pass notWellFormed w
     ∙ pass before1972 (le-leb firstDay _ (o .before .if2 .left))
     ∙ pass noInstant (lt-ltb _ _ (o .if3 .left))
-    ∙ stop _ notKnown (failed (c .before .is-known .ensures ∙ known-by f w _ _) (c .if4 .taken))
+    ∙ stop _ notKnown (failed (c .before .is-known .ensures ∙ known-by f w _ _ _) (c .if4 .taken))
 
 returns-5 : tie.Need-returns-5
 returns-5 c s f =
     let o = c .before .before in
-    let w = passed (f .well) (o .before .before .if1 .left) in
+    let w = passed (f .is-well) (o .before .before .if1 .left) in
     pass notWellFormed w
     ∙ pass before1972 (le-leb firstDay _ (o .before .if2 .left))
     ∙ pass noInstant (lt-ltb _ _ (o .if3 .left))
-    ∙ pass notKnown (passed (c .before .is-known .ensures ∙ known-by f w _ _) (c .if4 .left))
+    ∙ pass notKnown (passed (c .before .is-known .ensures ∙ known-by f w _ _ _) (c .if4 .left))
 
 pub instant-refusal-spec : {M : Type 1} → statement M
 instant-refusal-spec = tie.close (tie.spec returns returns-2 returns-3 (λ c κs. search needs) returns-4 returns-5)

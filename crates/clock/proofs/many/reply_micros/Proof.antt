@@ -1,0 +1,46 @@
+-- `clock::many::reply_micros` meets its contract. Assumes nothing.
+use borrow.Author.Needs.{needs}
+use Rattle.clock.specs.Answers.{microsAnswer, microsNumber, microsValue}
+use Rattle.clock.proofs.Numbers.{micros-told, hands-value}
+use Rattle.clock.proofs.many.reply_micros.Statement.{statement}
+use Rattle.clock.proofs.many.reply_micros.Tie as tie
+
+returns : tie.Need-returns
+returns c s p =
+    let early-micros = c .before .before .early-micros in
+    let micros-number = c .before .micros-number in
+    let micros-value = c .micros-value in
+    hands-value 0 microsAnswer microsNumber microsValue micros-told _ _ (early-micros .ensures s (p .list)) _ (micros-number .ensures) _ (micros-value .ensures)
+
+found-requires : tie.Need-found-requires
+found-requires c κs =
+    let pre = c .before .pre in
+    (pre .fenced, pre .guessed, pre .inside)
+
+micros-on-requires : tie.Need-micros-on-requires
+micros-on-requires c κs =
+    let pre = c .before .before .pre in
+    let found = c .found in
+    record { by = pre .of; day-for = found .ensures (pre .of) (pre .prepared) }
+
+returns-2 : tie.Need-returns-2
+returns-2 c s p =
+    let micros-on = c .before .before .micros-on in
+    let found = c .before .before .before .found in
+    let micros-number2 = c .before .micros-number2 in
+    let micros-value2 = c .micros-value2 in
+    hands-value 0 microsAnswer microsNumber microsValue micros-told _ _ (micros-on .ensures s (found .ensures s p)) _ (micros-number2 .ensures) _ (micros-value2 .ensures)
+
+pub reply-micros-spec : {M : Type 1} → statement M
+reply-micros-spec =
+    tie.close
+    (tie.spec
+    (λ c κs. search needs)
+    (λ c κs. search needs)
+    (λ c κs. search needs)
+    returns
+    found-requires
+    micros-on-requires
+    (λ c κs. search needs)
+    (λ c κs. search needs)
+    returns-2)

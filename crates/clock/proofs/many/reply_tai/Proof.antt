@@ -1,0 +1,28 @@
+-- `clock::many::reply_tai` meets its contract. Assumes nothing.
+use borrow.Author.Needs.{needs}
+use Rattle.clock.specs.Answers.{taiAnswer, taiNumber, taiValue}
+use Rattle.clock.proofs.Numbers.{tai-told, hands-value}
+use Rattle.clock.proofs.many.reply_tai.Statement.{statement}
+use Rattle.clock.proofs.many.reply_tai.Tie as tie
+
+found-requires : tie.Need-found-requires
+found-requires c κs =
+    let pre = c .pre in
+    (pre .fenced, pre .guessed, pre .inside)
+
+tai-on-requires : tie.Need-tai-on-requires
+tai-on-requires c κs =
+    let pre = c .before .pre in
+    let found = c .found in
+    record { by = pre .of; day-for = found .ensures (pre .of) (pre .prepared) }
+
+returns : tie.Need-returns
+returns c s p =
+    let tai-on = c .before .before .tai-on in
+    let found = c .before .before .before .found in
+    let tai-number = c .before .tai-number in
+    let tai-value = c .tai-value in
+    hands-value 0 taiAnswer taiNumber taiValue tai-told _ _ (tai-on .ensures s (found .ensures s p)) _ (tai-number .ensures) _ (tai-value .ensures)
+
+pub reply-tai-spec : {M : Type 1} → statement M
+reply-tai-spec = tie.close (tie.spec found-requires tai-on-requires (λ c κs. search needs) (λ c κs. search needs) returns)

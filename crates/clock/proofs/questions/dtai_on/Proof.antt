@@ -1,0 +1,40 @@
+-- `clock::questions::dtai_on` meets its contract. Assumes nothing.
+use mathlib.Core.Path.{sym, ap, ap₂, _∙_}
+use Prim.Native.Nat.{_+_}
+use native.Mathlib.Omega.{arith}
+use lib.IntN.{subℕ}
+use borrow.Author.Needs.{needs}
+use Rattle.schedule.specs.declared.Sign.the-variants.{Positive, Negative}
+use Rattle.schedule.specs.Schedule.{leapsOf}
+use Rattle.clock.specs.declared.DtaiAnswer.the-variants.{Given}
+use Rattle.clock.specs.Days.{firstDtai, tally, dtai}
+use Rattle.clock.specs.Answers.{dtaiAnswer}
+use Rattle.clock.proofs.Tai.{tally-few}
+use Rattle.clock.proofs.Signed.{minus-kept}
+use Rattle.clock.proofs.Checks.{on-date, date-then, all-passed, then-passed, then-refused}
+use Rattle.clock.proofs.questions.dtai_on.Statement.{statement}
+use Rattle.clock.proofs.questions.dtai_on.Tie as tie
+
+returns : tie.Need-returns
+returns c s f =
+    let args = c .before .before .args in
+    let date-refusal = c .before .date-refusal in
+    let if1 = c .if1 in
+    sym (ap dtaiAnswer (then-refused _ (date-then s (args .day) (dtai s (args .day))) (date-refusal .ensures s f) (if1 .taken)))
+
+returns-2 : tie.Need-returns-2
+returns-2 c s f =
+    let args = c .before .before .before .args in
+    let date-refusal = c .before .before .date-refusal in
+    let if1 = c .before .if1 in
+    let dtai-by = c .dtai-by in
+    let day = args .day in
+    let passed = all-passed _ (date-refusal .ensures s f) (if1 .left) in
+    let on = on-date s day tt tt passed in
+    let is = f .is (on .well) (on .from) (on .through) in
+    let value = dtai-by .ensures ∙ ap₂ (λ u d. subℕ (firstDtai + u) d) (ap (λ k. k .up) is) (ap (λ k. k .down) is) in
+    rw value (ap (λ z. Given z) (minus-kept (firstDtai + tally Positive (leapsOf s) day) (tally Negative (leapsOf s) day) (omega (arith, tally-few s (on .well) Positive day)) (omega (arith, tally-few s (on .well) Negative day))))
+    ∙ sym (ap dtaiAnswer (then-passed (date-then s day (dtai s day)) passed))
+
+pub dtai-on-spec : {M : Type 1} → statement M
+dtai-on-spec = tie.close (tie.spec (λ c κs. search needs) returns (λ c κs. search needs) returns-2)

@@ -1,0 +1,103 @@
+-- `clock::stretches::starts_of` meets its contract. Assumes nothing.
+use mathlib.Core.Path.{sym, ap, _∙_}
+use Prim.Native.Nat.{_-_, _<_}
+use native.Mathlib.Omega.{arith}
+use borrow.Author.Needs.{needs}
+use Rattle.calendar.specs.Calendar.{monthStart}
+use Rattle.calendar.proofs.Laws.{start-min}
+use Rattle.schedule.specs.WordLayout.{countWord, meant}
+use Rattle.clock.proofs.Checks.{passed, failed, not-well-formed}
+use Rattle.clock.proofs.LaidOut.{count-meant, leap-meant, month-meant}
+use Rattle.clock.proofs.Preparing.{Starting, starting-none, starting-one, starting-all, starting-not}
+use Rattle.clock.proofs.stretches.starts_of.Statement.{statement}
+use Rattle.clock.proofs.stretches.starts_of.Tie as tie
+
+abbrev Inv-loop : tie.InvT-loop
+Inv-loop words well starts₀ count i₀ starts i = Starting (meant words) starts i
+
+abbrev μ-loop : tie.MeasureT-loop
+μ-loop words well starts₀ count i₀ starts i = count - i
+
+returns : tie.Need-returns Inv-loop μ-loop
+returns c =
+    let args = c .before .args in
+    let pre = c .before .pre in
+    let if1 = c .if1 in
+    starting-not (meant (args .words .now)) (not-well-formed (failed pre (if1 .taken)))
+
+cast-first-day : tie.Need-cast-first-day Inv-loop μ-loop
+cast-first-day c =
+    let args = c .before .before .before .before .before .args in
+    let pre = c .before .before .before .before .before .pre in
+    let if1 = c .before .before .before .before .if1 in
+    let loop = c .before .before .loop in
+    let loop-test = c .before .loop-test in
+    let leaps-in = c .before .before .before .leaps-in in
+    let words = args .words .now in
+    let w = passed pre (if1 .left) in
+    let m = month-meant words w (loop .i) (omega (arith, loop-test .taken, leaps-in .ensures .0, count-meant words w)) in
+    omega arith
+
+array-write-starts-2 : tie.Need-array-write-starts-2 Inv-loop μ-loop
+array-write-starts-2 c =
+    let loop = c .before .before .before .loop in
+    let leaps-in = c .before .before .before .before .leaps-in in
+    omega (arith, loop .inv .size, leaps-in .ensures .1)
+
+loop-again : tie.Need-loop-again Inv-loop μ-loop
+loop-again c =
+    let args = c .before .before .before .before .before .before .args in
+    let pre = c .before .before .before .before .before .before .pre in
+    let if1 = c .before .before .before .before .before .if1 in
+    let leaps-in = c .before .before .before .before .leaps-in in
+    let loop = c .before .before .before .loop in
+    let loop-test = c .before .before .loop-test in
+    let first-day = c .first-day in
+    let words = args .words .now in
+    let w = passed pre (if1 .left) in
+    let n = leaps-in .ensures in
+    let h : loop .i < countWord words = omega (arith, loop-test .taken, n .0, count-meant words w) in
+    starting-one (loop .inv) (omega arith) (omega (arith, loop-test .taken)) (first-day .result)
+    (first-day .ensures ∙ start-min (month-meant words w (loop .i) h) ∙ sym (ap (λ l. monthStart (l .month)) (leap-meant words w (loop .i) h)))
+
+leaps-in-requires : tie.Need-leaps-in-requires Inv-loop μ-loop
+leaps-in-requires c κs =
+    let pre = c .before .pre in
+    let if1 = c .if1 in
+    passed pre (if1 .left)
+
+loop-holds : tie.Need-loop-holds Inv-loop μ-loop
+loop-holds c =
+    let args = c .before .before .args in
+    starting-none (meant (args .words .now))
+
+returns-2 : tie.Need-returns-2 Inv-loop μ-loop
+returns-2 c =
+    let leaps-in = c .before .before .leaps-in in
+    let loop = c .before .loop in
+    let loop-test = c .loop-test in
+    let n = leaps-in .ensures in
+    starting-all (loop .inv) (omega (arith, loop-test .left)) (omega arith)
+
+pub starts-of-spec : {M : Type 1} → statement M
+starts-of-spec =
+    tie.close
+    (tie.spec
+    Inv-loop
+    μ-loop
+    (λ c. search needs)
+    returns
+    leaps-in-requires
+    loop-holds
+    (λ c. omega arith)
+    (λ c. omega arith)
+    (λ c. search needs)
+    cast-first-day
+    (λ c κs. search needs)
+    (λ c. omega arith)
+    (λ c. omega arith)
+    array-write-starts-2
+    (λ c. omega arith)
+    (λ c. omega arith)
+    loop-again
+    returns-2)

@@ -1,0 +1,8 @@
+-- `clock::words::dtai` meets its contract. Assumes nothing.
+use borrow.Author.Needs.{needs}
+use Rattle.clock.proofs.words.dtai.Statement.{statement}
+use Rattle.clock.proofs.words.dtai.Tie as tie
+
+pub dtai-spec : {M : Type 1} → statement M
+dtai-spec =
+    tie.close (tie.spec (λ c κs. search needs) (λ c κs. search needs) (λ c. c .dtai-on .ensures _ (c .before .day-in .ensures)))

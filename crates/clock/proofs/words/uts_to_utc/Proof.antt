@@ -1,0 +1,8 @@
+-- `clock::words::uts_to_utc` meets its contract. Assumes nothing.
+use borrow.Author.Needs.{needs}
+use Rattle.clock.proofs.words.uts_to_utc.Statement.{statement}
+use Rattle.clock.proofs.words.uts_to_utc.Tie as tie
+
+pub uts-to-utc-spec : {M : Type 1} → statement M
+uts-to-utc-spec =
+    tie.close (tie.spec (λ c κs. search needs) (λ c κs. record { by = _; day-for = c .day-in .ensures }) (λ c. c .micros-on .ensures _ (c .before .day-in .ensures)))

@@ -1,0 +1,328 @@
+// Many questions under one list as 514 words: the list is prepared once, and then each instant is answered as a single question would be.
+ghost use mathlib.Core.Path.{_≡_};
+ghost use Prim.Native.Nat.{min};
+ghost use lib.IntN.{pos};
+ghost use lib.ListN.{length};
+ghost use Rattle.schedule.specs.declared.Schedule.{Schedule};
+ghost use Rattle.schedule.specs.Schedule.{wellFormed};
+ghost use Rattle.schedule.specs.WordLayout.{meant};
+ghost use Rattle.clock.specs.Question.{dtaiOn, utcToTai, taiToUtc, utcToUts, utsToUtc};
+ghost use Rattle.clock.specs.Answers.{HandsValue, HandsUtc};
+ghost use Rattle.clock.specs.Many.{answerAt, answersAt, HandsMany, HandsManyUtc};
+ghost use Rattle.clock.specs.Inner.{Prepared, Ready};
+use crate::answers::dtai_number;
+use crate::answers::dtai_value;
+use crate::answers::micros_number;
+use crate::answers::micros_value;
+use crate::answers::tai_number;
+use crate::answers::tai_value;
+use crate::answers::utc_day;
+use crate::answers::utc_micros;
+use crate::answers::utc_number;
+use crate::answers::uts_number;
+use crate::answers::uts_value;
+use crate::days::day_before;
+use crate::inplace::look_at;
+use crate::questions::NANOS_CUTOFF;
+use crate::questions::UTS_CUTOFF;
+use crate::questions::dtai_on;
+use crate::questions::early_micros;
+use crate::questions::early_uts;
+use crate::questions::micros_on;
+use crate::questions::near_day;
+use crate::questions::tai_on;
+use crate::questions::utc_on;
+use crate::questions::uts_on;
+use crate::stretches::found;
+use crate::stretches::guesses_of;
+use crate::stretches::starts_of;
+use crate::stretches::tallies_of;
+use schedule::Sign;
+
+// An answer's number, and its value or 0.
+struct Reply {
+    pub number: u8,
+    pub value: u64,
+}
+
+fn shorter(a: usize, b: usize) -> usize
+    ensures { λ r. ⌜ r ≡ min a b ⌝ }
+{
+    if a < b {
+        return a;
+    }
+    b
+}
+
+// Whether words stand for a well-formed schedule.
+fn is_list(words: &[u32; 514]) -> bool
+    ensures { λ r. ⌜ r ≡ wellFormed (meant (now (words .entry))) ⌝ }
+{
+    let v = look_at(words, 0, 0);
+    v.well
+}
+
+// UTC to TAI.
+fn reply_tai(
+    starts: &[u64; 258],
+    ups: &[u16; 258],
+    downs: &[u16; 258],
+    guesses: &[u16; 894],
+    well: bool,
+    last: u64,
+    day: u64,
+    micros: u64,
+) -> Reply
+    requires { ⌜ Ready well last (now starts) (now ups) (now downs) (now guesses) ⌝ }
+    ensures { λ r. ⌜ ((s : Schedule) → Prepared s well last (now (starts .entry)) (now (ups .entry)) (now (downs .entry)) → HandsValue 0 (utcToTai s day micros) (r .number) (r .value)) ⌝ }
+{
+    let a = tai_on(
+        found(starts, ups, downs, guesses, well, last, day),
+        day,
+        micros,
+    );
+    Reply {
+        number: tai_number(a),
+        value: tai_value(a),
+    }
+}
+
+// UTC to smoothed time. How the day ends is looked for only where it matters.
+fn reply_uts(
+    starts: &[u64; 258],
+    ups: &[u16; 258],
+    downs: &[u16; 258],
+    guesses: &[u16; 894],
+    well: bool,
+    last: u64,
+    day: u64,
+    micros: u64,
+) -> Reply
+    requires { ⌜ Ready well last (now starts) (now ups) (now downs) (now guesses) ⌝ }
+    ensures { λ r. ⌜ ((s : Schedule) → Prepared s well last (now (starts .entry)) (now (ups .entry)) (now (downs .entry)) → HandsValue 0 (utcToUts s day micros) (r .number) (r .value)) ⌝ }
+{
+    if micros < UTS_CUTOFF {
+        let a = early_uts(well, last, day, micros);
+        return Reply {
+            number: uts_number(a),
+            value: uts_value(a),
+        };
+    }
+    let a = uts_on(
+        found(starts, ups, downs, guesses, well, last, day),
+        day,
+        micros,
+    );
+    Reply {
+        number: uts_number(a),
+        value: uts_value(a),
+    }
+}
+
+// Smoothed time to UTC, likewise.
+fn reply_micros(
+    starts: &[u64; 258],
+    ups: &[u16; 258],
+    downs: &[u16; 258],
+    guesses: &[u16; 894],
+    well: bool,
+    last: u64,
+    day: u64,
+    nanos: u64,
+) -> Reply
+    requires { ⌜ Ready well last (now starts) (now ups) (now downs) (now guesses) ⌝ }
+    ensures { λ r. ⌜ ((s : Schedule) → Prepared s well last (now (starts .entry)) (now (ups .entry)) (now (downs .entry)) → HandsValue 0 (utsToUtc s day nanos) (r .number) (r .value)) ⌝ }
+{
+    if nanos < NANOS_CUTOFF {
+        let a = early_micros(well, last, day, nanos);
+        return Reply {
+            number: micros_number(a),
+            value: micros_value(a),
+        };
+    }
+    let a = micros_on(
+        found(starts, ups, downs, guesses, well, last, day),
+        day,
+        nanos,
+    );
+    Reply {
+        number: micros_number(a),
+        value: micros_value(a),
+    }
+}
+
+// DTAI for each date.
+pub fn dtai(words: &[u32; 514], days: &[u64], numbers: &mut [u8], dtais: &mut [i32]) -> u64
+    ensures { λ n. ⌜ HandsMany (pos 0) (answerAt (dtaiOn (meant (now (words .entry)))) (now (days .entry))) (min (length (now (days .entry))) (min (length (now (numbers .entry))) (length (now (dtais .entry))))) (now (numbers .entry)) (now (dtais .entry)) n (now (numbers .exit)) (now (dtais .exit)) ⌝ }
+{
+    let n = shorter(days.len(), shorter(numbers.len(), dtais.len()));
+    let well = is_list(words);
+    let last = day_before(words[513]);
+    let starts = starts_of(words, well);
+    let ups = tallies_of(words, well, Sign::Positive);
+    let downs = tallies_of(words, well, Sign::Negative);
+    let guesses = guesses_of(&starts, last);
+    let mut i: usize = 0;
+    while i < n {
+        let day = days[i];
+        let a = dtai_on(found(&starts, &ups, &downs, &guesses, well, last, day), day);
+        numbers[i] = dtai_number(a);
+        dtais[i] = dtai_value(a);
+        i += 1;
+    }
+    n as u64
+}
+
+// UTC to TAI for each instant.
+pub fn utc_to_tai(
+    words: &[u32; 514],
+    days: &[u64],
+    micros: &[u64],
+    numbers: &mut [u8],
+    tais: &mut [u64],
+) -> u64
+    ensures { λ n. ⌜ HandsMany 0 (answersAt (utcToTai (meant (now (words .entry)))) (now (days .entry)) (now (micros .entry))) (min (min (length (now (days .entry))) (length (now (micros .entry)))) (min (length (now (numbers .entry))) (length (now (tais .entry))))) (now (numbers .entry)) (now (tais .entry)) n (now (numbers .exit)) (now (tais .exit)) ⌝ }
+{
+    let n = shorter(
+        shorter(days.len(), micros.len()),
+        shorter(numbers.len(), tais.len()),
+    );
+    let well = is_list(words);
+    let last = day_before(words[513]);
+    let starts = starts_of(words, well);
+    let ups = tallies_of(words, well, Sign::Positive);
+    let downs = tallies_of(words, well, Sign::Negative);
+    let guesses = guesses_of(&starts, last);
+    let mut i: usize = 0;
+    while i < n {
+        let r = reply_tai(
+            &starts,
+            &ups,
+            &downs,
+            &guesses,
+            well,
+            last,
+            days[i],
+            micros[i],
+        );
+        numbers[i] = r.number;
+        tais[i] = r.value;
+        i += 1;
+    }
+    n as u64
+}
+
+// UTC to smoothed time for each instant.
+pub fn utc_to_uts(
+    words: &[u32; 514],
+    days: &[u64],
+    micros: &[u64],
+    numbers: &mut [u8],
+    nanos: &mut [u64],
+) -> u64
+    ensures { λ n. ⌜ HandsMany 0 (answersAt (utcToUts (meant (now (words .entry)))) (now (days .entry)) (now (micros .entry))) (min (min (length (now (days .entry))) (length (now (micros .entry)))) (min (length (now (numbers .entry))) (length (now (nanos .entry))))) (now (numbers .entry)) (now (nanos .entry)) n (now (numbers .exit)) (now (nanos .exit)) ⌝ }
+{
+    let n = shorter(
+        shorter(days.len(), micros.len()),
+        shorter(numbers.len(), nanos.len()),
+    );
+    let well = is_list(words);
+    let last = day_before(words[513]);
+    let starts = starts_of(words, well);
+    let ups = tallies_of(words, well, Sign::Positive);
+    let downs = tallies_of(words, well, Sign::Negative);
+    let guesses = guesses_of(&starts, last);
+    let mut i: usize = 0;
+    while i < n {
+        let r = reply_uts(
+            &starts,
+            &ups,
+            &downs,
+            &guesses,
+            well,
+            last,
+            days[i],
+            micros[i],
+        );
+        numbers[i] = r.number;
+        nanos[i] = r.value;
+        i += 1;
+    }
+    n as u64
+}
+
+// Smoothed time to UTC for each instant.
+pub fn uts_to_utc(
+    words: &[u32; 514],
+    days: &[u64],
+    nanos: &[u64],
+    numbers: &mut [u8],
+    micros: &mut [u64],
+) -> u64
+    ensures { λ n. ⌜ HandsMany 0 (answersAt (utsToUtc (meant (now (words .entry)))) (now (days .entry)) (now (nanos .entry))) (min (min (length (now (days .entry))) (length (now (nanos .entry)))) (min (length (now (numbers .entry))) (length (now (micros .entry))))) (now (numbers .entry)) (now (micros .entry)) n (now (numbers .exit)) (now (micros .exit)) ⌝ }
+{
+    let n = shorter(
+        shorter(days.len(), nanos.len()),
+        shorter(numbers.len(), micros.len()),
+    );
+    let well = is_list(words);
+    let last = day_before(words[513]);
+    let starts = starts_of(words, well);
+    let ups = tallies_of(words, well, Sign::Positive);
+    let downs = tallies_of(words, well, Sign::Negative);
+    let guesses = guesses_of(&starts, last);
+    let mut i: usize = 0;
+    while i < n {
+        let r = reply_micros(
+            &starts,
+            &ups,
+            &downs,
+            &guesses,
+            well,
+            last,
+            days[i],
+            nanos[i],
+        );
+        numbers[i] = r.number;
+        micros[i] = r.value;
+        i += 1;
+    }
+    n as u64
+}
+
+// TAI to UTC for each TAI.
+pub fn tai_to_utc(
+    words: &[u32; 514],
+    tais: &[u64],
+    numbers: &mut [u8],
+    days: &mut [u64],
+    micros: &mut [u64],
+) -> u64
+    ensures { λ n. ⌜ HandsManyUtc (answerAt (taiToUtc (meant (now (words .entry)))) (now (tais .entry))) (min (min (length (now (tais .entry))) (length (now (numbers .entry)))) (min (length (now (days .entry))) (length (now (micros .entry))))) (now (numbers .entry)) (now (days .entry)) (now (micros .entry)) n (now (numbers .exit)) (now (days .exit)) (now (micros .exit)) ⌝ }
+{
+    let n = shorter(
+        shorter(tais.len(), numbers.len()),
+        shorter(days.len(), micros.len()),
+    );
+    let well = is_list(words);
+    let last = day_before(words[513]);
+    let starts = starts_of(words, well);
+    let ups = tallies_of(words, well, Sign::Positive);
+    let downs = tallies_of(words, well, Sign::Negative);
+    let guesses = guesses_of(&starts, last);
+    let mut i: usize = 0;
+    while i < n {
+        let x = tais[i];
+        let near = near_day(x, last);
+        let a = utc_on(
+            found(&starts, &ups, &downs, &guesses, well, last, near),
+            near,
+            x,
+        );
+        numbers[i] = utc_number(a);
+        days[i] = utc_day(a);
+        micros[i] = utc_micros(a);
+        i += 1;
+    }
+    n as u64
+}

@@ -1,0 +1,165 @@
+// A list prepared for many questions: the days on which its leaps take effect, the leaps of each sign by then, and where to start looking.
+// From one such day to the next is a stretch, in which DTAI is the same.
+ghost use mathlib.Core.Path.{_≡_};
+ghost use mathlib.Core.Bool.{true};
+ghost use Prim.Native.Nat.{_+_, _≤_, _<_};
+ghost use lib.ListN.{getD};
+ghost use Rattle.calendar.specs.Calendar.{endDay};
+ghost use Rattle.schedule.specs.declared.Schedule.{Schedule};
+ghost use Rattle.schedule.specs.Schedule.{wellFormed};
+ghost use Rattle.schedule.specs.WordLayout.{signOf, meant};
+ghost use Rattle.schedule.specs.Extends.{sameSign};
+ghost use Rattle.clock.specs.Days.{count};
+ghost use Rattle.clock.specs.Inner.{SurveyedOn, DayFor, Stretch, Starts, Tallies, Fenced, Guesses, Prepared};
+use crate::days::Day;
+use crate::days::day_by;
+use crate::look::Survey;
+use crate::questions::smaller;
+use schedule::Sign;
+
+// A day after all that are asked about.
+const FAR: u64 = 4_294_967_295;
+
+// Where to start looking is kept for each stretch of so many days.
+const STEP: u64 = 128;
+
+// The first day of 1972 lies in step 322, the last day of the calendar in step 893.
+const FIRST_STEP: usize = 322;
+
+// How many leaps a well-formed list has.
+fn leaps_in(words: &[u32; 514]) -> usize
+    requires { ⌜ wellFormed (meant (now words)) ≡ true ⌝ }
+    ensures { λ r. ⌜ (r ≡ meant (now (words .entry)) .count) × (r ≤ 256) ⌝ }
+{
+    let count = words[512];
+    count as usize
+}
+
+// The day on which each leap takes effect, from place 1 on; day 0 before them, and FAR after them.
+pub(crate) fn starts_of(words: &[u32; 514], well: bool) -> [u64; 258]
+    requires { ⌜ well ≡ wellFormed (meant (now words)) ⌝ }
+    ensures { λ r. ⌜ Fenced r × Starts (meant (now (words .entry))) r ⌝ }
+{
+    let mut starts = [FAR; 258];
+    starts[0] = 0;
+    if !well {
+        return starts;
+    }
+    let count = leaps_in(words);
+    let mut i: usize = 0;
+    while i < count {
+        let month = words[2 * i];
+        starts[i + 1] = calendar::first_day(month as u16);
+        i += 1;
+    }
+    starts
+}
+
+// 1 if a sign word means the sign, else 0.
+fn is_of(sign: Sign, negative: u32) -> u16
+    ensures { λ r. ⌜ (r ≡ count (sameSign sign (signOf negative))) × (r ≤ 1) ⌝ }
+{
+    match sign {
+        Sign::Positive => if negative == 0 { 1 } else { 0 },
+        Sign::Negative => if negative == 0 { 0 } else { 1 },
+    }
+}
+
+// How many of the first leaps have the sign, for each number of them.
+pub(crate) fn tallies_of(words: &[u32; 514], well: bool, sign: Sign) -> [u16; 258]
+    requires { ⌜ well ≡ wellFormed (meant (now words)) ⌝ }
+    ensures { λ r. ⌜ Tallies (meant (now (words .entry))) sign r ⌝ }
+{
+    let mut tallies = [0u16; 258];
+    if !well {
+        return tallies;
+    }
+    let count = leaps_in(words);
+    let mut n: u16 = 0;
+    let mut i: usize = 0;
+    while i < count {
+        n += is_of(sign, words[2 * i + 1]);
+        tallies[i + 1] = n;
+        i += 1;
+    }
+    tallies
+}
+
+// The place of the stretch that a day lies in, from a place at or before it.
+fn walk(starts: &[u64; 258], from: usize, day: u64) -> usize
+    requires { ⌜ (from ≤ 256) × (getD (now starts) from 0 ≤ day) × (day < getD (now starts) 257 0) ⌝ }
+    ensures { λ r. ⌜ Stretch (now (starts .entry)) day r ⌝ }
+{
+    let mut at = from;
+    while starts[at + 1] <= day {
+        at += 1;
+    }
+    at
+}
+
+// A place and, if its stretch is over by the day, the next one: a first step of the walk that is taken with no branch.
+fn step(starts: &[u64; 258], at: usize, day: u64) -> usize
+    requires { ⌜ (at ≤ 256) × (getD (now starts) at 0 ≤ day) × (day < getD (now starts) 257 0) ⌝ }
+    ensures { λ r. ⌜ (r ≤ 256) × (getD (now (starts .entry)) r 0 ≤ day) ⌝ }
+{
+    if starts[at + 1] <= day {
+        return at + 1;
+    }
+    at
+}
+
+// A place at or before the stretch of each day, by steps, up to the last day.
+pub(crate) fn guesses_of(starts: &[u64; 258], last: u64) -> [u16; 894]
+    requires { ⌜ Fenced (now starts) × (last < endDay) ⌝ }
+    ensures { λ r. ⌜ Guesses (now (starts .entry)) r ⌝ }
+{
+    let mut guesses = [0u16; 894];
+    let end = (last / STEP) as usize;
+    let mut at: usize = 0;
+    let mut i = FIRST_STEP;
+    while i <= end {
+        at = walk(starts, at, STEP * i as u64);
+        guesses[i] = at as u16;
+        i += 1;
+    }
+    guesses
+}
+
+// What a prepared list says of a day. A day after the last one gets what is said of that: only `well` and `last` mean something then.
+pub(crate) fn found(
+    starts: &[u64; 258],
+    ups: &[u16; 258],
+    downs: &[u16; 258],
+    guesses: &[u16; 894],
+    well: bool,
+    last: u64,
+    day: u64,
+) -> Day
+    requires { ⌜ Fenced (now starts) × Guesses (now starts) (now guesses) × (last < endDay) ⌝ }
+    ensures { λ r. ⌜ ((s : Schedule) → Prepared s well last (now (starts .entry)) (now (ups .entry)) (now (downs .entry)) → DayFor s day r) ⌝ }
+{
+    let near = smaller(day, last);
+    let guess = guesses[(near / STEP) as usize];
+    let at = walk(starts, step(starts, guess as usize, near), near);
+    let up = ups[at];
+    let down = downs[at];
+    // Seldom a leap takes effect on the next day.
+    if starts[at + 1] == near + 1 {
+        let v = Survey {
+            well,
+            up,
+            down,
+            upnext: ups[at + 1],
+            downnext: downs[at + 1],
+        };
+        return day_by(v, last);
+    }
+    let v = Survey {
+        well,
+        up,
+        down,
+        upnext: up,
+        downnext: down,
+    };
+    day_by(v, last)
+}

@@ -1,0 +1,63 @@
+//! The two lists under which everything is asked.
+
+use leap::ffi::{self, Words};
+
+/// List B of 01, as text.
+const B: &str =
+    "6+6+12+12+12+12+12+12+12+18+12+12+24+30+24+12+18+12+12+18+18+18+84+36+42+36+18+59?";
+
+pub struct List {
+    pub name: &'static str,
+    pub text: Vec<u8>,
+    pub nybbles: Vec<u8>,
+    pub words: Words,
+}
+
+impl List {
+    fn read(name: &'static str, text: String) -> Result<List, String> {
+        let (mut words, mut place) = ([0; 514], 0);
+        let number = ffi::read_text(text.as_bytes(), &mut words, &mut place);
+        if number != 0 {
+            return Err(format!("{name} is refused with {number} at byte {place}"));
+        }
+        let (mut nybbles, mut written) = (vec![0; 390], 0);
+        let number = ffi::write_nybbles(&words, &mut nybbles, &mut written);
+        if number != 0 {
+            return Err(format!("{name} is not written: {number}"));
+        }
+        nybbles.truncate(written as usize);
+        Ok(List {
+            name,
+            text: text.into_bytes(),
+            nybbles,
+            words,
+        })
+    }
+
+    /// The months in which a leap takes effect.
+    pub fn months(&self) -> impl Iterator<Item = u32> + '_ {
+        let count = self.words[512] as usize;
+        self.words.chunks_exact(2).take(count).map(|leap| leap[0])
+    }
+
+    pub fn expiry(&self) -> u32 {
+        self.words[513]
+    }
+}
+
+/// As many leaps as a list may have: one every nine months, of which every
+/// eighth is negative. It expires in month 2394 of the 2400 allowed.
+fn longest() -> String {
+    let mut text = String::new();
+    for leap in 1..=256 {
+        text.push_str(if leap % 8 == 0 { "9-" } else { "9+" });
+    }
+    text + "90?"
+}
+
+pub fn both() -> Result<[List; 2], String> {
+    Ok([
+        List::read("list B", B.to_string())?,
+        List::read("the list of 256 leaps", longest())?,
+    ])
+}

@@ -1,0 +1,199 @@
+//! `bench` times the proved archive beside other programs that answer the same
+//! questions. Its help says what is timed, and its output how.
+
+mod agree;
+mod baseline;
+mod cases;
+mod erfa;
+mod instants;
+mod lists;
+mod measure;
+mod programs;
+mod questions;
+mod tables;
+mod targets;
+
+use std::process::ExitCode;
+
+use baseline::BASELINE;
+use instants::COUNT;
+use lists::List;
+use measure::{median, Timed, ROUNDS};
+use programs::{Many, Second, Single, SECOND};
+use questions::{Instants, Program};
+use tables::Ratio;
+
+const HELP: &str = "\
+bench: times the proved archive beside other programs, and prints tables of ns a call
+
+It takes no arguments but --help. Under list B, of 27 leaps, and under a list of
+256 leaps it times
+- the five questions, by single calls of the C interface and by its calls for
+  many questions, about instants at random and about those of one evening
+- calls for many questions with 1, 10 and 100 instants, for UTC to TAI
+- reading and writing both lists as text and as nybbles
+
+beside
+- the second program (rust/second), with the list prepared once
+- the baseline (rust/bench/src/baseline.rs): unproved Rust tuned by hand
+- ERFA, if bench is built with the feature erfa, which tools/bench looks to
+
+and at last says which targets are met. Before it times anything it compares the
+answers of archive, second program and baseline. The exit status is 0 whatever
+the times are, 1 if answers differ, and 2 for an unknown argument.
+";
+
+const COMPARED: &str = "\
+compared: every question about every instant, answered by the archive's single calls, its
+calls for many, the second program and the baseline; and how many answers had which number";
+
+fn main() -> ExitCode {
+    let arguments: Vec<String> = std::env::args().skip(1).collect();
+    match arguments.first().map(String::as_str) {
+        None => {}
+        Some("--help") if arguments.len() == 1 => {
+            print!("{HELP}");
+            return ExitCode::SUCCESS;
+        }
+        Some(_) => {
+            eprintln!("bench: unknown arguments: {}", arguments.join(" "));
+            eprintln!("bench --help says what it does");
+            return ExitCode::from(2);
+        }
+    }
+    match run() {
+        Ok(()) => ExitCode::SUCCESS,
+        Err(error) => {
+            eprintln!("bench: {error}");
+            ExitCode::FAILURE
+        }
+    }
+}
+
+/// A list, the programs that have prepared it, and the instants.
+struct Bench<'a> {
+    list: &'a List,
+    second: Second,
+    baseline: Box<dyn Program>,
+    sets: [Instants; 2],
+}
+
+impl<'a> Bench<'a> {
+    fn new(list: &'a List) -> Result<Bench<'a>, String> {
+        let second = Second::new(&list.words).ok_or("the second program refuses a list")?;
+        let sets = [
+            instants::random(list, &second.0),
+            instants::one_day(list, &second.0),
+        ];
+        for set in &sets {
+            if set.mjd.len() != COUNT {
+                return Err(format!("{}: not every instant is known", set.name));
+            }
+        }
+        let baseline = baseline::prepared(&list.words);
+        Ok(Bench {
+            list,
+            second,
+            baseline,
+            sets,
+        })
+    }
+
+    fn compare(&self) -> Result<(), String> {
+        let words = &self.list.words;
+        let programs: [&dyn Program; 4] =
+            [&self.second, &Single(words), &Many(words), &*self.baseline];
+        let refusals = instants::refusals(self.list, &self.second.0);
+        for set in self.sets.iter().chain([&refusals]) {
+            let counts = agree::questions(self.list, set, &programs)?;
+            let (list, name, size) = (self.list.name, set.name, set.mjd.len());
+            let counts = counts.join(", ");
+            println!("  {list}, {size} {name}: {counts}");
+        }
+        agree::formats(self.list)
+    }
+
+    /// The tables of the questions; gives the times with random instants.
+    fn questions(&self, with_erfa: bool) -> Vec<Timed> {
+        let words = &self.list.words;
+        let programs: [&dyn Program; 4] =
+            [&Single(words), &Many(words), &self.second, &*self.baseline];
+        let ratios = [
+            ratio("x baseline", |timed, what| median(timed, what, BASELINE)),
+            ratio("x ERFA", tables::erfa_time),
+        ];
+        let timed = self.sets.each_ref().map(|set| {
+            let timed = cases::questions(set, &programs, with_erfa);
+            let title = format!("{}, {}: ns a call", self.list.name, set.name);
+            let missing = if with_erfa { erfa::MISSING } else { &[] };
+            tables::print(&title, &timed, &ratios, missing);
+            timed
+        });
+        let [random, _] = timed;
+        random
+    }
+
+    fn few(&self) {
+        let words = &self.list.words;
+        let programs: [&dyn Program; 2] = [&Many(words), &*self.baseline];
+        let timed = cases::few(words, &self.sets[0], &programs);
+        let title = format!(
+            "{}, UTC to TAI, random instants, 1, 10 and 100 instants a call: ns a call",
+            self.list.name
+        );
+        tables::print(&title, &timed, &[], &[]);
+    }
+
+    fn formats(&self) -> Vec<Timed> {
+        let timed = cases::formats(self.list);
+        let title = format!(
+            "{}, {} bytes of text, {} of nybbles: ns a call",
+            self.list.name,
+            self.list.text.len(),
+            self.list.nybbles.len()
+        );
+        let ratios = [ratio("x second", |timed, what| median(timed, what, SECOND))];
+        tables::print(&title, &timed, &ratios, &[]);
+        timed
+    }
+}
+
+fn ratio(header: &'static str, to: fn(&[Timed], &str) -> Option<f64>) -> Ratio {
+    Ratio { header, to }
+}
+
+fn run() -> Result<(), String> {
+    let lists = lists::both()?;
+    let benches = [Bench::new(&lists[0])?, Bench::new(&lists[1])?];
+    println!("{COMPARED}");
+    for bench in &benches {
+        bench.compare()?;
+    }
+    println!("  both lists as text and as nybbles, read and written");
+    println!("  all equal");
+    print_method();
+    let questions = benches[0].questions(true);
+    benches[1].questions(false);
+    benches.iter().for_each(Bench::few);
+    let formats = benches[0].formats();
+    benches[1].formats();
+    targets::print(&questions, &formats);
+    Ok(())
+}
+
+fn print_method() {
+    println!(
+        "
+method: medians of {ROUNDS} rounds over {COUNT} instants (256 calls for reading and writing),
+  the rounds of the programs in turn, each after an untimed one. Inputs, outputs and the
+  list's 2056 bytes are warm in the caches; outputs are allocated once and reused. The
+  instants are the same in every round, so a branch on them may be learnt. The middle half
+  is from the first to the third quartile of the rounds.
+lists: list B of 01, 27 leaps, known through November 2021; and 256 leaps, nine months apart.
+instants: random ones over all that a list knows; and an evening from 18:00:00 on, on the day
+  that the list's last leap ends. Each has an answer to every question.
+second program: `Prepared`, made once, a call for each instant.
+baseline: prepared once, one call for all instants."
+    );
+    println!("{}", erfa::METHOD);
+}

@@ -1,0 +1,115 @@
+//! The targets, as far as this run has met them: list B, random instants.
+
+use crate::baseline::BASELINE;
+use crate::cases::{ARCHIVE, READ_TEXT};
+use crate::erfa;
+use crate::measure::{median, Timed};
+use crate::programs::{MANY, SECOND, SINGLE};
+use crate::questions::Question;
+use crate::tables::short;
+
+enum Target {
+    None,
+    /// At most so many times the other's time.
+    AtMost(f64),
+    /// At least so many times faster than the other.
+    Faster(f64),
+}
+
+struct Line {
+    what: String,
+    time: Option<f64>,
+    other: &'static str,
+    other_time: Option<f64>,
+    target: Target,
+}
+
+/// From the questions about random instants and the formats, both of list B.
+pub fn print(questions: &[Timed], formats: &[Timed]) {
+    println!();
+    println!("== targets: list B, random instants, ns");
+    println!(
+        "{:<20}{:>9}  {:<16}{:>9}{:>15}  {:<21}  met",
+        "", "time", "other", "time", "ratio", "target"
+    );
+    let single = Question::ALL.map(|q| by_erfa(questions, q, SINGLE));
+    let many = Question::ALL.map(|q| by_erfa(questions, q, MANY));
+    let baseline = Question::ALL.map(|q| by_baseline(questions, q));
+    let lines = single.into_iter().chain(many).chain(baseline);
+    for line in lines.chain([by_second(formats)]) {
+        println!("{}", line.shown());
+    }
+}
+
+fn by_erfa(timed: &[Timed], question: Question, program: &'static str) -> Line {
+    let (rival, other) = erfa::rival(question);
+    let target = match (program, question) {
+        (SINGLE, Question::Dtai) => Target::None,
+        (SINGLE, _) | (_, Question::Dtai) => Target::AtMost(1.0),
+        (_, Question::UtcToTai | Question::UtcToUts) => Target::Faster(5.0),
+        (_, Question::TaiToUtc | Question::UtsToUtc) => Target::Faster(10.0),
+    };
+    let form = if program == SINGLE { "single" } else { "many" };
+    Line {
+        what: format!("{form} {}", question.name()),
+        time: median(timed, question.name(), program),
+        other,
+        other_time: median(timed, rival, other),
+        target,
+    }
+}
+
+fn by_baseline(timed: &[Timed], question: Question) -> Line {
+    Line {
+        what: format!("many {}", question.name()),
+        time: median(timed, question.name(), MANY),
+        other: BASELINE,
+        other_time: median(timed, question.name(), BASELINE),
+        target: Target::AtMost(2.0),
+    }
+}
+
+fn by_second(timed: &[Timed]) -> Line {
+    Line {
+        what: READ_TEXT.to_string(),
+        time: median(timed, READ_TEXT, ARCHIVE),
+        other: SECOND,
+        other_time: median(timed, READ_TEXT, SECOND),
+        target: Target::AtMost(1.0),
+    }
+}
+
+impl Line {
+    fn shown(&self) -> String {
+        let target = match self.target {
+            Target::None => "none, stated only".to_string(),
+            Target::AtMost(times) => format!("at most {times:.2} x"),
+            Target::Faster(times) => format!("at least {times:.0} x faster"),
+        };
+        let time = self.time.unwrap_or(f64::NAN);
+        let start = format!("{:<20}{:>9}  {:<16}", self.what, short(time), self.other);
+        let Some(other) = self.other_time else {
+            return format!("{start}{:>9}{:>15}  {target:<21}  -", "absent", "-");
+        };
+        let (ratio, met) = match self.target {
+            Target::None => (format!("{} x", short(time / other)), "-"),
+            Target::AtMost(times) => {
+                let ratio = time / other;
+                (format!("{} x", short(ratio)), word(ratio <= times))
+            }
+            Target::Faster(times) => {
+                let ratio = other / time;
+                (format!("{} x faster", short(ratio)), word(ratio >= times))
+            }
+        };
+        format!("{start}{:>9}{ratio:>15}  {target:<21}  {met}", short(other))
+    }
+}
+
+fn word(met: bool) -> &'static str {
+    if met {
+        "met"
+    } else {
+        "not met"
+    }
+}
