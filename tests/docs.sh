@@ -36,11 +36,12 @@ indented() {
     awk -v heading="## $1" '/^## / { on = $0 == heading } on && /^    / { print substr($0, 5) }' README.md
 }
 
-# the example of "In C", between the usual first and last lines
+# the examples of "In C", between the usual first and last lines
 {
     printf '#include <stdio.h>\n#include "leap.h"\nint main(void) {\n'
     indented "In C" |
-        sed 's|/\* nanos is \([0-9]*\) \*/|if (nanos == \1u) { puts("ok the C example of README.md"); return 0; }|'
+        sed -e 's|/\* nanos is \([0-9]*\) \*/|if (nanos == \1u) puts("ok the C example of README.md"); else return 1;|' \
+            -e 's|/\* tai is \([0-9]*\) and \([0-9]*\) \*/|if (tai[0] == \1u \&\& tai[1] == \2u) { puts("ok its example of many questions"); return 0; }|'
     printf 'return 1;\n}\n'
 } >"$built/readme.c"
 quietly "the C example does not compile" gcc -std=c99 "${strict[@]}" "$built/readme.c" "$LEAP_LIB_DIR/libleap.a" -o "$built/readme"

@@ -21,10 +21,10 @@ use schedule::Sign;
 const FAR: u64 = 4_294_967_295;
 
 // Where to start looking is kept for each stretch of so many days.
-const STEP: u64 = 128;
+const STEP: u64 = 256;
 
-// The first day of 1972 lies in step 322, the last day of the calendar in step 893.
-const FIRST_STEP: usize = 322;
+// The first day of 1972 lies in step 161, the last day of the calendar in step 446.
+const FIRST_STEP: usize = 161;
 
 // How many leaps a well-formed list has.
 fn leaps_in(words: &[u32; 514]) -> usize
@@ -109,11 +109,11 @@ fn step(starts: &[u64; 258], at: usize, day: u64) -> usize
 }
 
 // A place at or before the stretch of each day, by steps, up to the last day.
-pub(crate) fn guesses_of(starts: &[u64; 258], last: u64) -> [u16; 894]
+pub(crate) fn guesses_of(starts: &[u64; 258], last: u64) -> [u16; 447]
     requires { ⌜ Fenced (now starts) × (last < endDay) ⌝ }
     ensures { λ r. ⌜ Guesses (now (starts .entry)) r ⌝ }
 {
-    let mut guesses = [0u16; 894];
+    let mut guesses = [0u16; 447];
     let end = (last / STEP) as usize;
     let mut at: usize = 0;
     let mut i = FIRST_STEP;
@@ -130,7 +130,7 @@ pub(crate) fn found(
     starts: &[u64; 258],
     ups: &[u16; 258],
     downs: &[u16; 258],
-    guesses: &[u16; 894],
+    guesses: &[u16; 447],
     well: bool,
     last: u64,
     day: u64,
