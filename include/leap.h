@@ -147,7 +147,9 @@ uint8_t leap_uts_to_utc(const leap_schedule *s, uint64_t mjd, uint64_t nanos,
  * Each array is followed by its length, in elements. The call returns how many
  * were asked, answered or refused: the shortest of the lengths. Elements beyond
  * that stay as they were. No output may overlap another array or the schedule.
- * The list is checked once, and after that an instant costs a few nanoseconds.
+ * The list is checked and prepared once, which takes longer than one question;
+ * after that an instant takes a few nanoseconds, or some more where the list's
+ * leaps stand only months apart.
  */
 
 /* TAI minus UTC on each day, in seconds: leap_dtai. */

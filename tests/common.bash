@@ -57,6 +57,7 @@ else
     archive=$LEAP_LIB_DIR/libleap.a
     if ! [ -f "$archive" ] || [ -n "$(find "$root/crates" "$root/crates.txt" -newer "$archive" -print -quit)" ]; then
         cd "$root"
+        echo "the archive is missing or older than the crates: building it first, with rt staticlib leap" >&2
         quietly "rt staticlib leap" rt staticlib leap
     fi
 fi

@@ -12,10 +12,10 @@ use Rattle.calendar.specs.Calendar.{lastMonth, monthStart}
 use Rattle.schedule.specs.declared.Sign.the-variants.{Positive, Negative}
 use Rattle.schedule.specs.declared.Schedule.{Schedule}
 use Rattle.schedule.specs.Schedule.{maxLeaps, noLeap, leapsOf, wellFormed, gapFits}
-use Rattle.schedule.specs.WordLayout.{monthWord, signWord, countWord, expiryWord, leapAt, leapsAt, laidOut, meant}
+use Rattle.schedule.specs.WordLayout.{monthWord, signWord, signsFit, countWord, expiryWord, leapAt, leapsAt, laidOut, meant}
 use Rattle.schedule.proofs.Gaps.{parts}
 use Rattle.schedule.proofs.Formed.{used}
-use Rattle.schedule.proofs.WordLayout.{small-month, leaps-length, leap-there, signsFit, signs-none, signs-one, layout-meant, well-meant}
+use Rattle.schedule.proofs.WordLayout.{small-month, leaps-length, leap-there, signs-none, signs-one, layout-meant, well-meant}
 use Rattle.clock.specs.declared.look.Survey.{Survey}
 use Rattle.clock.specs.Known.{lastDay}
 use Rattle.clock.specs.Inner.{reached, Tallied, Surveyed}

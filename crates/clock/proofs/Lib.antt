@@ -13,6 +13,7 @@ pub mod Differ
 pub mod Numbers
 pub mod Places
 pub mod LaidOut
+pub mod Clear
 pub mod Placed
 pub mod Preparing
 pub mod Filled

@@ -138,6 +138,10 @@ module _ (s : Schedule) (full : length (s .leaps) ≡ maxLeaps) (faults i : ℕ)
     pub rest-all : maxLeaps ≤ i → eqb faults 0 ≡ wellFormed s
     rest-all h = sym (p .well ∙ rw (unused-last s full i h, and-true (eqb faults 0)))
 
+    -- the rest counted at once
+    pub rest-cleared : (r : ℕ) → eqb r 0 ≡ allUnused (drop i (s .leaps)) → eqb (faults + r) 0 ≡ wellFormed s
+    rest-cleared r e = eqb-sum faults r ∙ (ap (λ b. eqb faults 0 && b) e ∙ sym (p .well))
+
 -- ---- a schedule that is not well formed
 pub not-well : (s : Schedule) (month next : ℕ) (v : Survey) → v .well ≡ false → wellFormed s ≡ false → Surveyed s month next v
 not-well s month next v e h = record { well = e ∙ sym h; tallied = λ w. absurd (true≢false (sym w ∙ h)) }

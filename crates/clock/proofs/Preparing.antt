@@ -136,9 +136,9 @@ zeros n k =
     out (suc n) zero h = absurd (omega arith)
     out (suc n) (suc k) h = out n k (omega arith)
 
-pub guesses-none : (starts : List ℕ) → Fenced starts → Guesses starts (replicate 447 0)
+pub guesses-none : (starts : List ℕ) → Fenced starts → Guesses starts (replicate 894 0)
 guesses-none starts f =
-    record { room = λ i. omega (arith, zeros 447 i); begun = λ i. rw (zeros 447 i, f .first) (omega arith) }
+    record { room = λ i. omega (arith, zeros 894 i); begun = λ i. rw (zeros 894 i, f .first) (omega arith) }
 
 -- an element of an array in which one was stored
 stored : (P : ℕ → Type 0) (xs : List ℕ) (i v k : ℕ) → P (getD xs k 0) → (k ≡ i → P v) → P (getD (set xs i v) k 0)
@@ -152,11 +152,11 @@ stored P xs i v k old new =
     ])
     (λ t. rw (getD-set-other xs i k v 0 (eqb-false k i t)) old)
 
-pub guesses-one : {starts guesses : List ℕ} → Guesses starts guesses → (i at : ℕ) → at ≤ 256 → getD starts at 0 ≤ 256 * i → Guesses starts (set guesses i at)
+pub guesses-one : {starts guesses : List ℕ} → Guesses starts guesses → (i at : ℕ) → at ≤ 256 → getD starts at 0 ≤ 128 * i → Guesses starts (set guesses i at)
 guesses-one {starts} {guesses} p i at r b =
     record {
       room = λ k. stored (λ x. x ≤ 256) guesses i at k (p .room k) (λ e. r);
-      begun = λ k. stored (λ x. getD starts x 0 ≤ 256 * k) guesses i at k (p .begun k) (λ e. rw e b);
+      begun = λ k. stored (λ x. getD starts x 0 ≤ 128 * k) guesses i at k (p .begun k) (λ e. rw e b);
     }
 
 -- ---- the list, prepared

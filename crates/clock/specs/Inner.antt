@@ -130,10 +130,10 @@ pub record Stretch (starts : List ℕ) (day at : ℕ) : Type 0 where
   pub begun : getD starts at 0 ≤ day
   pub not-over : day < getD starts (at + 1) 0
 
--- for each step of 256 days, a place that has started by its first day
+-- for each span of 128 days, a place that has started by its first day
 pub record Guesses (starts guesses : List ℕ) : Type 0 where
   pub room : (i : ℕ) → getD guesses i 0 ≤ 256
-  pub begun : (i : ℕ) → getD starts (getD guesses i 0) 0 ≤ 256 * i
+  pub begun : (i : ℕ) → getD starts (getD guesses i 0) 0 ≤ 128 * i
 
 -- a schedule, prepared
 pub record Prepared (s : Schedule) (well : Bool) (last : ℕ) (starts ups downs : List ℕ) : Type 0 where

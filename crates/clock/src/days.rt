@@ -119,14 +119,14 @@ pub(crate) fn day_at(s: Schedule, day: u64) -> Day
     day_by(v, day_before(s.expiry))
 }
 
-// What a schedule as words says of a day.
-pub(crate) fn day_in(words: &[u32; 514], day: u64) -> Day
-    ensures { λ r. ⌜ DayFor (meant (now (words .entry))) day r ⌝ }
+// What a schedule as words, whose last day is given, says of a day.
+pub(crate) fn day_in(words: &[u32; 514], last: u64, day: u64) -> Day
+    ensures { λ r. ⌜ ((wellFormed (meant (now (words .entry))) ≡ true → last ≡ lastDay (meant (now (words .entry)))) → DayFor (meant (now (words .entry))) day r) ⌝ }
 {
     let found = calendar::month_of(day);
     let month = found.month;
     let v = look_at(words, wide(month), wide(next_month(day, month)));
-    day_by(v, day_before(words[513]))
+    day_by(v, last)
 }
 
 // TAI at the start of a day.

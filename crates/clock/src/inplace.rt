@@ -3,7 +3,6 @@
 ghost use mathlib.Core.Path.{_≡_};
 ghost use Prim.Native.Nat.{_≤_, _<_};
 ghost use lib.Dec.{eqb, ltb};
-ghost use Rattle.schedule.specs.Schedule.{isUnused};
 ghost use Rattle.schedule.specs.WordLayout.{leapBy, meant};
 ghost use Rattle.schedule.specs.declared.Sign.the-variants.{Positive, Negative};
 ghost use Rattle.clock.specs.Inner.{reached, Surveyed};
@@ -22,14 +21,11 @@ fn unsigned(negative: u32) -> u32
     1
 }
 
-// 0 if a place holds month 0 and a positive sign, else 1.
-fn holds(month: u32, negative: u32) -> u32
-    ensures { λ r. ⌜ (eqb r 0 ≡ isUnused (leapBy month negative)) × (r ≤ 1) ⌝ }
+// 1 if a word is 0, else 0.
+fn blank(word: u32) -> u32
+    ensures { λ r. ⌜ (r ≤ 1) × (r ≡ 1 → word ≡ 0) × (word ≡ 0 → r ≡ 1) ⌝ }
 {
-    if month != 0 {
-        return 1;
-    }
-    if negative != 0 {
+    if word == 0 {
         return 1;
     }
     0
@@ -101,10 +97,14 @@ pub(crate) fn look_at(words: &[u32; 514], month: u32, next: u32) -> Survey
         i += 1;
     }
     faults += misfit(last, expiry);
-    while i < 256 {
-        faults += holds(words[2 * i], words[2 * i + 1]);
-        i += 1;
+    // The words after the leaps in use: those that are not 0 are faults too.
+    let mut clear: u32 = 0;
+    let mut j = 2 * i;
+    while j < 512 {
+        clear += blank(words[j]);
+        j += 1;
     }
+    faults += 512 - (2 * count + clear);
     let well = signs + faults == 0;
     Survey {
         well,

@@ -27,8 +27,8 @@ pub(crate) fn is_known(last: u64, cutoff: u64, day: u64, t: u64) -> bool
     t < cutoff
 }
 
-// The number with which an instant of UTC or of UTS is refused, or 0, by whether the schedule is well formed and its last day: there is none from `limit` on, and on the last day it is known below
-// the cut-off.
+// The number with which an instant of UTC or of UTS is refused, or 0, by whether the schedule is well formed and its last day: there is no
+// instant from `limit` on, and on the last day it is known below the cut-off.
 pub(crate) fn instant_refusal(
     well: bool,
     last: u64,

@@ -20,11 +20,11 @@ use schedule::Sign;
 // A day after all that are asked about.
 const FAR: u64 = 4_294_967_295;
 
-// Where to start looking is kept for each stretch of so many days.
-const STEP: u64 = 256;
+// Where to start looking is kept for each span of so many days.
+const SPAN: u64 = 128;
 
-// The first day of 1972 lies in step 161, the last day of the calendar in step 446.
-const FIRST_STEP: usize = 161;
+// The first day of 1972 lies in span 322, the last day of the calendar in span 893.
+const FIRST_SPAN: usize = 322;
 
 // How many leaps a well-formed list has.
 fn leaps_in(words: &[u32; 514]) -> usize
@@ -108,17 +108,17 @@ fn step(starts: &[u64; 258], at: usize, day: u64) -> usize
     at
 }
 
-// A place at or before the stretch of each day, by steps, up to the last day.
-pub(crate) fn guesses_of(starts: &[u64; 258], last: u64) -> [u16; 447]
+// A place at or before the stretch of each day, span by span up to the last day.
+pub(crate) fn guesses_of(starts: &[u64; 258], last: u64) -> [u16; 894]
     requires { ⌜ Fenced (now starts) × (last < endDay) ⌝ }
     ensures { λ r. ⌜ Guesses (now (starts .entry)) r ⌝ }
 {
-    let mut guesses = [0u16; 447];
-    let end = (last / STEP) as usize;
+    let mut guesses = [0u16; 894];
+    let end = (last / SPAN) as usize;
     let mut at: usize = 0;
-    let mut i = FIRST_STEP;
+    let mut i = FIRST_SPAN;
     while i <= end {
-        at = walk(starts, at, STEP * i as u64);
+        at = walk(starts, at, SPAN * i as u64);
         guesses[i] = at as u16;
         i += 1;
     }
@@ -130,7 +130,7 @@ pub(crate) fn found(
     starts: &[u64; 258],
     ups: &[u16; 258],
     downs: &[u16; 258],
-    guesses: &[u16; 447],
+    guesses: &[u16; 894],
     well: bool,
     last: u64,
     day: u64,
@@ -139,7 +139,7 @@ pub(crate) fn found(
     ensures { λ r. ⌜ ((s : Schedule) → Prepared s well last (now (starts .entry)) (now (ups .entry)) (now (downs .entry)) → DayFor s day r) ⌝ }
 {
     let near = smaller(day, last);
-    let guess = guesses[(near / STEP) as usize];
+    let guess = guesses[(near / SPAN) as usize];
     let at = walk(starts, step(starts, guess as usize, near), near);
     let up = ups[at];
     let down = downs[at];

@@ -24,34 +24,39 @@ use crate::questions::uts_on;
 pub fn dtai(words: &[u32; 514], day: u64) -> DtaiAnswer
     ensures { λ r. ⌜ r ≡ dtaiAnswer (dtaiOn (meant (now (words .entry))) day) ⌝ }
 {
-    dtai_on(day_in(words, day), day)
+    let last = day_before(words[513]);
+    dtai_on(day_in(words, last, day), day)
 }
 
 // UTC to TAI.
 pub fn utc_to_tai(words: &[u32; 514], day: u64, t: UtcMicros) -> TaiAnswer
     ensures { λ r. ⌜ r ≡ taiAnswer (utcToTai (meant (now (words .entry))) day (t .0)) ⌝ }
 {
-    tai_on(day_in(words, day), day, t.0)
+    let last = day_before(words[513]);
+    tai_on(day_in(words, last, day), day, t.0)
 }
 
 // TAI to UTC: the one instant whose TAI it is.
 pub fn tai_to_utc(words: &[u32; 514], x: TaiMicros) -> UtcAnswer
     ensures { λ r. ⌜ r ≡ utcAnswer (taiToUtc (meant (now (words .entry))) (x .0)) ⌝ }
 {
-    let near = near_day(x.0, day_before(words[513]));
-    utc_on(day_in(words, near), near, x.0)
+    let last = day_before(words[513]);
+    let near = near_day(x.0, last);
+    utc_on(day_in(words, last, near), near, x.0)
 }
 
 // UTC to smoothed time.
 pub fn utc_to_uts(words: &[u32; 514], day: u64, t: UtcMicros) -> UtsAnswer
     ensures { λ r. ⌜ r ≡ utsAnswer (utcToUts (meant (now (words .entry))) day (t .0)) ⌝ }
 {
-    uts_on(day_in(words, day), day, t.0)
+    let last = day_before(words[513]);
+    uts_on(day_in(words, last, day), day, t.0)
 }
 
 // Smoothed time to UTC: the greatest microsecond of the day whose smoothed time is not above the one given.
 pub fn uts_to_utc(words: &[u32; 514], day: u64, u: UtsNanos) -> MicrosAnswer
     ensures { λ r. ⌜ r ≡ microsAnswer (utsToUtc (meant (now (words .entry))) day (u .0)) ⌝ }
 {
-    micros_on(day_in(words, day), day, u.0)
+    let last = day_before(words[513]);
+    micros_on(day_in(words, last, day), day, u.0)
 }

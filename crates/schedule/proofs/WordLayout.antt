@@ -17,7 +17,7 @@ use Rattle.schedule.specs.declared.Sign.the-variants.{Positive, Negative
 use Rattle.schedule.specs.declared.Leap.{Leap}
 use Rattle.schedule.specs.declared.Schedule.{Schedule}
 use Rattle.schedule.specs.Schedule.{maxLeaps, noLeap, blankSchedule, leapsOf, gapsFit, isPositive, isUnused, allUnused, wellFormed}
-use Rattle.schedule.specs.WordLayout.{monthWord, signWord, signOf, countWord, standsForLeap, standForLeaps, leapAt, leapsAt, laidOut, meant}
+use Rattle.schedule.specs.WordLayout.{monthWord, signWord, signOf, countWord, standsForLeap, standForLeaps, signsFit, leapAt, leapsAt, laidOut, meant}
 use Rattle.schedule.proofs.Cases.{by-bool}
 use Rattle.schedule.proofs.Gaps.{later, before-end, parts, blank-refused}
 
@@ -89,24 +89,19 @@ module _ (words : List ℕ) where
       ∙ leap-there n i l)
       (eq-or-lt-of-le (le-of-suc-le-suc h))
 
-  -- the sign words of the first n leaps are 0 or 1
-  unfoldable pub signsFit : ℕ → Bool
-  signsFit zero = true
-  signsFit (suc n) = signsFit n && ltb (signWord words n) 2
-
-  pub signs-none : signsFit 0 ≡ true
+  pub signs-none : signsFit words 0 ≡ true
   unfolding signsFit
   signs-none = refl
 
-  pub signs-one : (i : ℕ) → signsFit (i + 1) ≡ (signsFit i && ltb (signWord words i) 2)
+  pub signs-one : (i : ℕ) → signsFit words (i + 1) ≡ (signsFit words i && ltb (signWord words i) 2)
   unfolding signsFit
   signs-one i = rw (add-one i)
 
-  sign-fits : (n i : ℕ) → i < n → signsFit n ≡ true → signWord words i < 2
+  sign-fits : (n i : ℕ) → i < n → signsFit words n ≡ true → signWord words i < 2
   unfolding signsFit
   sign-fits zero i h f = absurd (not-suc-le-zero h)
   sign-fits (suc n) i h f =
-      let both = and-eq-true-iff (signsFit n) (ltb (signWord words n) 2) .0 f in
+      let both = and-eq-true-iff (signsFit words n) (ltb (signWord words n) 2) .0 f in
       ⊎-elim (λ (e : i ≡ n). rw e (ltb-true (signWord words n) 2 (both .1))) (λ (l : i < n). sign-fits n i l (both .0)) (eq-or-lt-of-le (le-of-suc-le-suc h))
 
   -- leaps stand for leaps where their words do, one by one
@@ -125,13 +120,13 @@ module _ (words : List ℕ) where
       (λ (l : i < n). stands n i l (both .0))
       (eq-or-lt-of-le (le-of-suc-le-suc h))
 
-  signs-by : (n : ℕ) → n ≤ 256 → standForLeaps words 256 ≡ true → signsFit n ≡ true
+  signs-by : (n : ℕ) → n ≤ 256 → standForLeaps words 256 ≡ true → signsFit words n ≡ true
   unfolding signsFit
   signs-by zero h e = refl
   signs-by (suc n) h e = simp (signs-by n (omega arith) e, stands 256 n h e)
 
   -- a well-formed layout whose sign words are 0 or 1 is what the words mean
-  pub means-layout : wellFormed (laidOut words) ≡ true → signsFit (countWord words) ≡ true → meant words ≡ laidOut words
+  pub means-layout : wellFormed (laidOut words) ≡ true → signsFit words (countWord words) ≡ true → meant words ≡ laidOut words
   unfolding meant
   means-layout w f = simp (stand-by 256 each)
     where
@@ -156,31 +151,31 @@ module _ (words : List ℕ) where
   is-blank e = simp e
 
   -- words that mean a well-formed schedule mean the one laid out, and their sign words are 0 or 1
-  pub layout-meant : wellFormed (meant words) ≡ true → (meant words ≡ laidOut words) × (signsFit (countWord words) ≡ true)
+  pub layout-meant : wellFormed (meant words) ≡ true → (meant words ≡ laidOut words) × (signsFit words (countWord words) ≡ true)
   layout-meant w = by-bool (standForLeaps words 256) yes no
     where
-      yes : standForLeaps words 256 ≡ true → (meant words ≡ laidOut words) × (signsFit (countWord words) ≡ true)
+      yes : standForLeaps words 256 ≡ true → (meant words ≡ laidOut words) × (signsFit words (countWord words) ≡ true)
       yes e =
           let is = is-laid e in
           (is, signs-by (countWord words) (parts (laidOut words) (rw is at w) .room) e)
 
-      no : standForLeaps words 256 ≡ false → (meant words ≡ laidOut words) × (signsFit (countWord words) ≡ true)
+      no : standForLeaps words 256 ≡ false → (meant words ≡ laidOut words) × (signsFit words (countWord words) ≡ true)
       no e = absurd (true≢false (sym w ∙ (ap (λ (s : Schedule). wellFormed s) (is-blank e) ∙ blank-refused)))
 
   -- words mean a well-formed schedule exactly when the one laid out is well formed and the sign words are 0 or 1
-  pub well-meant : (signsFit (countWord words) && wellFormed (laidOut words)) ≡ wellFormed (meant words)
+  pub well-meant : (signsFit words (countWord words) && wellFormed (laidOut words)) ≡ wellFormed (meant words)
   well-meant =
       by-bool (wellFormed (meant words)) (λ w.
       let m = layout-meant w in
       let laid : wellFormed (laidOut words) ≡ true = rw (m .0) at w in
-      let both : (signsFit (countWord words) && wellFormed (laidOut words)) ≡ true = simp (m .1, laid) in
+      let both : (signsFit words (countWord words) && wellFormed (laidOut words)) ≡ true = simp (m .1, laid) in
       both ∙ sym w)
       (λ w.
-      by-bool (signsFit (countWord words) && wellFormed (laidOut words))
+      by-bool (signsFit words (countWord words) && wellFormed (laidOut words))
       (λ b.
-      let both = and-eq-true-iff (signsFit (countWord words)) (wellFormed (laidOut words)) .0 b in
+      let both = and-eq-true-iff (signsFit words (countWord words)) (wellFormed (laidOut words)) .0 b in
       absurd (true≢false (sym (both .1) ∙ (sym (ap (λ (s : Schedule). wellFormed s) (means-layout (both .1) (both .0))) ∙ w))))
       (λ b. b ∙ sym w))
 
   pub not-meant : wellFormed (laidOut words) ≡ false → wellFormed (meant words) ≡ false
-  not-meant w = sym well-meant ∙ (ap (λ (b : Bool). signsFit (countWord words) && b) w ∙ and-false (signsFit (countWord words)))
+  not-meant w = sym well-meant ∙ (ap (λ (b : Bool). signsFit words (countWord words) && b) w ∙ and-false (signsFit words (countWord words)))

@@ -34,6 +34,11 @@ unfoldable pub standForLeaps : List ℕ → ℕ → Bool
 standForLeaps words zero = true
 standForLeaps words (suc n) = standForLeaps words n && standsForLeap words n
 
+-- the sign words of the first n leaps are 0 or 1
+unfoldable pub signsFit : List ℕ → ℕ → Bool
+signsFit words zero = true
+signsFit words (suc n) = signsFit words n && ltb (signWord words n) 2
+
 -- sign 0 is positive and sign 1 negative
 abbrev pub signOf : ℕ → Sign
 signOf n = cond (eqb n 0) Positive Negative

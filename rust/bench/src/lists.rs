@@ -1,4 +1,4 @@
-//! The two lists under which everything is asked.
+//! The lists under which the questions are asked.
 
 use leap::ffi::{self, Words};
 
@@ -55,9 +55,20 @@ fn longest() -> String {
     text + "90?"
 }
 
-pub fn both() -> Result<[List; 2], String> {
+/// As many leaps in the least time: one every month, of which every eighth is
+/// negative. It expires a month after the last.
+fn densest() -> String {
+    let mut text = String::new();
+    for leap in 1..=256 {
+        text.push_str(if leap % 8 == 0 { "1-" } else { "1+" });
+    }
+    text + "1?"
+}
+
+pub fn all() -> Result<[List; 3], String> {
     Ok([
         List::read("list B", B.to_string())?,
-        List::read("the list of 256 leaps", longest())?,
+        List::read("256 leaps, nine months apart", longest())?,
+        List::read("256 leaps, a month apart", densest())?,
     ])
 }

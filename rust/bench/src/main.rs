@@ -27,18 +27,22 @@ const HELP: &str = "\
 bench: times the proved archive beside other programs, and prints tables of ns a call
 
 It takes no arguments but --help. Under list B, of 27 leaps, and under a list of
-256 leaps it times
+256 leaps, nine months apart, it times
 - the five questions, by single calls of the C interface and by its calls for
   many questions, about instants at random and about those of one evening
 - calls for many questions with 1, 10 and 100 instants, for UTC to TAI
 - reading and writing both lists as text and as nybbles
+
+and under a list of 256 leaps, a month apart, the calls for many questions about
+instants at random,
 
 beside
 - the second program (rust/second), with the list prepared once
 - the baseline (rust/bench/src/baseline.rs): unproved Rust tuned by hand
 - ERFA, if bench is built with the feature erfa, which tools/bench looks to
 
-and at last says which targets are met. Before it times anything it compares the
+and at last says which targets are met under list B, for random instants and for
+those of one evening. Before it times anything it compares the
 answers of archive, second program and baseline. The exit status is 0 whatever
 the times are, 1 if answers differ, and 2 for an unknown argument.
 ";
@@ -113,24 +117,31 @@ impl<'a> Bench<'a> {
         agree::formats(self.list)
     }
 
-    /// The tables of the questions; gives the times with random instants.
-    fn questions(&self, with_erfa: bool) -> Vec<Timed> {
+    /// The tables of the questions; gives the times of each set of instants.
+    fn questions(&self, with_erfa: bool) -> [Vec<Timed>; 2] {
         let words = &self.list.words;
         let programs: [&dyn Program; 4] =
             [&Single(words), &Many(words), &self.second, &*self.baseline];
+        let sets = self.sets.each_ref();
+        sets.map(|set| self.table(set, &programs, with_erfa))
+    }
+
+    /// The table of the calls for many questions, with random instants only.
+    fn many(&self) {
+        let programs: [&dyn Program; 2] = [&Many(&self.list.words), &*self.baseline];
+        self.table(&self.sets[0], &programs, false);
+    }
+
+    fn table(&self, set: &Instants, programs: &[&dyn Program], with_erfa: bool) -> Vec<Timed> {
         let ratios = [
             ratio("x baseline", |timed, what| median(timed, what, BASELINE)),
             ratio("x ERFA", tables::erfa_time),
         ];
-        let timed = self.sets.each_ref().map(|set| {
-            let timed = cases::questions(set, &programs, with_erfa);
-            let title = format!("{}, {}: ns a call", self.list.name, set.name);
-            let missing = if with_erfa { erfa::MISSING } else { &[] };
-            tables::print(&title, &timed, &ratios, missing);
-            timed
-        });
-        let [random, _] = timed;
-        random
+        let timed = cases::questions(set, programs, with_erfa);
+        let title = format!("{}, {}: ns a call", self.list.name, set.name);
+        let missing = if with_erfa { erfa::MISSING } else { &[] };
+        tables::print(&title, &timed, &ratios, missing);
+        timed
     }
 
     fn few(&self) {
@@ -163,21 +174,26 @@ fn ratio(header: &'static str, to: fn(&[Timed], &str) -> Option<f64>) -> Ratio {
 }
 
 fn run() -> Result<(), String> {
-    let lists = lists::both()?;
-    let benches = [Bench::new(&lists[0])?, Bench::new(&lists[1])?];
+    let [b, longest, densest] = &lists::all()?;
+    let (b, longest, densest) = (Bench::new(b)?, Bench::new(longest)?, Bench::new(densest)?);
     println!("{COMPARED}");
-    for bench in &benches {
+    for bench in [&b, &longest, &densest] {
         bench.compare()?;
     }
-    println!("  both lists as text and as nybbles, read and written");
+    println!("  all three lists as text and as nybbles, read and written");
     println!("  all equal");
     print_method();
-    let questions = benches[0].questions(true);
-    benches[1].questions(false);
-    benches.iter().for_each(Bench::few);
-    let formats = benches[0].formats();
-    benches[1].formats();
-    targets::print(&questions, &formats);
+    let questions = b.questions(true);
+    longest.questions(false);
+    densest.many();
+    b.few();
+    longest.few();
+    let formats = b.formats();
+    longest.formats();
+    for (set, timed) in b.sets.iter().zip(&questions) {
+        targets::print_questions(set.name, timed);
+    }
+    targets::print_reading(&formats);
     Ok(())
 }
 
@@ -189,11 +205,13 @@ method: medians of {ROUNDS} rounds over {COUNT} instants (256 calls for reading 
   list's 2056 bytes are warm in the caches; outputs are allocated once and reused. The
   instants are the same in every round, so a branch on them may be learnt. The middle half
   is from the first to the third quartile of the rounds.
-lists: list B of 01, 27 leaps, known through November 2021; and 256 leaps, nine months apart.
+lists: list B of 01, 27 leaps, known through November 2021; 256 leaps, nine months apart;
+  and 256 leaps, a month apart, for the calls for many with random instants only.
 instants: random ones over all that a list knows; and an evening from 18:00:00 on, on the day
   that the list's last leap ends. Each has an answer to every question.
-second program: `Prepared`, made once, a call for each instant.
-baseline: prepared once, one call for all instants."
+second program: `Prepared`, made once, a call for each instant. It is timed with overflow
+  checks on, as it is built for the comparison (rust/Cargo.toml).
+baseline: prepared once, one call for all instants, without overflow checks."
     );
     println!("{}", erfa::METHOD);
 }

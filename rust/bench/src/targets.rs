@@ -1,4 +1,5 @@
-//! The targets, as far as this run has met them: list B, random instants.
+//! The targets, as far as this run has met them: list B, both sets of instants
+//! by themselves, and reading.
 
 use crate::baseline::BASELINE;
 use crate::cases::{ARCHIVE, READ_TEXT};
@@ -24,19 +25,27 @@ struct Line {
     target: Target,
 }
 
-/// From the questions about random instants and the formats, both of list B.
-pub fn print(questions: &[Timed], formats: &[Timed]) {
+/// The targets of the questions about one set of instants of list B.
+pub fn print_questions(set: &str, questions: &[Timed]) {
+    let single = Question::ALL.map(|q| by_erfa(questions, q, SINGLE));
+    let many = Question::ALL.map(|q| by_erfa(questions, q, MANY));
+    let baseline = Question::ALL.map(|q| by_baseline(questions, q));
+    print(set, single.into_iter().chain(many).chain(baseline));
+}
+
+/// The target of reading list B.
+pub fn print_reading(formats: &[Timed]) {
+    print("reading", [by_second(formats)]);
+}
+
+fn print(title: &str, lines: impl IntoIterator<Item = Line>) {
     println!();
-    println!("== targets: list B, random instants, ns");
+    println!("== targets: list B, {title}, ns");
     println!(
         "{:<20}{:>9}  {:<16}{:>9}{:>15}  {:<21}  met",
         "", "time", "other", "time", "ratio", "target"
     );
-    let single = Question::ALL.map(|q| by_erfa(questions, q, SINGLE));
-    let many = Question::ALL.map(|q| by_erfa(questions, q, MANY));
-    let baseline = Question::ALL.map(|q| by_baseline(questions, q));
-    let lines = single.into_iter().chain(many).chain(baseline);
-    for line in lines.chain([by_second(formats)]) {
+    for line in lines {
         println!("{}", line.shown());
     }
 }

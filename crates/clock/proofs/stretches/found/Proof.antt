@@ -26,14 +26,14 @@ cast-step : tie.Need-cast-step
 cast-step c =
     let pre = c .before .before .pre in
     let smaller = c .before .smaller in
-    omega (arith, pre .1 .room (smaller .result / 256))
+    omega (arith, pre .1 .room (smaller .result / 128))
 
 step-requires : tie.Need-step-requires
 step-requires c κs =
     let smaller = c .before .smaller in
     let pre = c .before .before .pre in
     let e = smaller .ensures in
-    (pre .1 .room _, omega (arith, pre .1 .begun (smaller .result / 256)), omega (arith, pre .0 .end, pre .2))
+    (pre .1 .room _, omega (arith, pre .1 .begun (smaller .result / 128)), omega (arith, pre .0 .end, pre .2))
 
 walk-requires : tie.Need-walk-requires
 walk-requires c κs =

@@ -10,7 +10,7 @@ use Rattle.clock.proofs.stretches.guesses_of.Statement.{statement}
 use Rattle.clock.proofs.stretches.guesses_of.Tie as tie
 
 abbrev Inv-loop : tie.InvT-loop
-Inv-loop starts last guesses₀ end at₀ i₀ guesses at i = (length guesses ≡ 447) × (at ≤ 256) × (getD starts at 0 ≤ 256 * i) × Guesses starts guesses
+Inv-loop starts last guesses₀ end at₀ i₀ guesses at i = (length guesses ≡ 894) × (at ≤ 256) × (getD starts at 0 ≤ 128 * i) × Guesses starts guesses
 
 abbrev μ-loop : tie.MeasureT-loop
 μ-loop starts last guesses₀ end at₀ i₀ guesses at i = end + 1 - i
@@ -19,7 +19,7 @@ loop-holds : tie.Need-loop-holds Inv-loop μ-loop
 loop-holds c =
     let pre = c .pre in
     let args = c .args in
-    (length-replicate {A = ℕ} 447 0, omega arith, omega (arith, pre .0 .first), guesses-none (args .starts .now) (pre .0))
+    (length-replicate {A = ℕ} 894 0, omega arith, omega (arith, pre .0 .first), guesses-none (args .starts .now) (pre .0))
 
 walk-requires : tie.Need-walk-requires Inv-loop μ-loop
 walk-requires c κs =

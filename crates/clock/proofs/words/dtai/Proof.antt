@@ -1,8 +1,18 @@
 -- `clock::words::dtai` meets its contract. Assumes nothing.
 use borrow.Author.Needs.{needs}
+use Rattle.schedule.specs.WordLayout.{meant}
+use Rattle.clock.proofs.LaidOut.{last-meant}
 use Rattle.clock.proofs.words.dtai.Statement.{statement}
 use Rattle.clock.proofs.words.dtai.Tie as tie
 
+returns : tie.Need-returns
+returns c =
+    let args = c .before .before .before .before .args in
+    let dtai-on = c .dtai-on in
+    let day-in = c .before .day-in in
+    let day-before = c .before .before .day-before in
+    let words = args .words .now in
+    dtai-on .ensures (meant words) (day-in .ensures (λ w. last-meant words w (day-before .result) (day-before .ensures .0)))
+
 pub dtai-spec : {M : Type 1} → statement M
-dtai-spec =
-    tie.close (tie.spec (λ c κs. search needs) (λ c κs. search needs) (λ c. c .dtai-on .ensures _ (c .before .day-in .ensures)))
+dtai-spec = tie.close (tie.spec (λ c. search needs) (λ c κs. search needs) (λ c κs. search needs) (λ c κs. search needs) returns)

@@ -1,8 +1,26 @@
 -- `clock::words::utc_to_tai` meets its contract. Assumes nothing.
 use borrow.Author.Needs.{needs}
+use Rattle.schedule.specs.WordLayout.{meant}
+use Rattle.clock.proofs.LaidOut.{last-meant}
 use Rattle.clock.proofs.words.utc_to_tai.Statement.{statement}
 use Rattle.clock.proofs.words.utc_to_tai.Tie as tie
 
+tai-on-requires : tie.Need-tai-on-requires
+tai-on-requires c κs =
+    let args = c .before .before .before .args in
+    let day-in = c .day-in in
+    let day-before = c .before .day-before in
+    let words = args .words .now in
+    record { by = meant words; day-for = day-in .ensures (λ w. last-meant words w (day-before .result) (day-before .ensures .0)) }
+
+returns : tie.Need-returns
+returns c =
+    let args = c .before .before .before .before .args in
+    let tai-on = c .tai-on in
+    let day-in = c .before .day-in in
+    let day-before = c .before .before .day-before in
+    let words = args .words .now in
+    tai-on .ensures (meant words) (day-in .ensures (λ w. last-meant words w (day-before .result) (day-before .ensures .0)))
+
 pub utc-to-tai-spec : {M : Type 1} → statement M
-utc-to-tai-spec =
-    tie.close (tie.spec (λ c κs. search needs) (λ c κs. record { by = _; day-for = c .day-in .ensures }) (λ c. c .tai-on .ensures _ (c .before .day-in .ensures)))
+utc-to-tai-spec = tie.close (tie.spec (λ c. search needs) (λ c κs. search needs) (λ c κs. search needs) tai-on-requires returns)
