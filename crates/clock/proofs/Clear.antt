@@ -1,18 +1,19 @@
--- The words after the leaps in use are all 0 exactly when the places that they lay out are unused; and how a loop counts them.
+-- The words after the leaps in use are all 0 exactly when the places that they lay out are unused; and how a loop puts them together.
 -- Assumes nothing.
 use mathlib.Core.Bool.{Bool, true, false, _&&_, and-eq-true-iff, true≢false}
 use mathlib.Core.List.{List, [], _∷_}
 use mathlib.Core.Logic.{⊎-elim}
-use mathlib.Core.Path.{_≡_, refl, sym, ap, _∙_}
+use mathlib.Core.Path.{_≡_, refl, sym, ap, ap₂, _∙_}
 use Prim.Native.Nat.{ℕ, zero, suc, _+_, _-_, _*_, _/_, _%_, _≤_, _<_}
 use native.Mathlib.Decide.{decLt}
 use native.Mathlib.Nat.{eq-or-lt-of-le}
 use native.Mathlib.Numerals.{add-one}
 use native.Mathlib.Omega.{arith}
+use lib.Bits.{bitOr, or-add-and, and-le-l, and-le-r}
 use lib.Dec.{eqb}
 use lib.ListN.{length, getD, drop, length-drop}
 use lib.Seq.{getD-drop}
-use borrow.Author.Tests.{eqb-true, eqb-false, eq-eqb, ne-eqb}
+use borrow.Author.Tests.{eqb-true, eqb-false}
 use Rattle.schedule.specs.declared.Leap.{Leap}
 use Rattle.schedule.specs.declared.Schedule.{Schedule}
 use Rattle.schedule.specs.Schedule.{maxLeaps, noLeap, isPositive, isUnused, allUnused}
@@ -25,27 +26,29 @@ use Rattle.schedule.proofs.WordLayout.{leaps-length, leap-there}
 abbrev Zeros : List ℕ → ℕ → ℕ → Type 0
 Zeros words from to = (k : ℕ) → from ≤ k → k < to → getD words k 0 ≡ 0
 
--- a count of the words that are 0, from one place up to another: it is full exactly when all are
-pub record Counted (words : List ℕ) (from to n : ℕ) : Type 0 where
+-- "or" is 0 exactly where both numbers are
+or-least : (a b : ℕ) → (a ≤ bitOr a b) × (b ≤ bitOr a b)
+or-least a b = (omega (arith, or-add-and a b, and-le-r a b), omega (arith, or-add-and a b, and-le-l a b))
+
+-- the words from one place up to another, put together by "or": that is 0 exactly when all are
+pub record Together (words : List ℕ) (from to rest : ℕ) : Type 0 where
   pub begun : from ≤ to
-  pub few : from + n ≤ to
-  pub all : from + n ≡ to → Zeros words from to
-  pub full : Zeros words from to → from + n ≡ to
+  pub all : rest ≡ 0 → Zeros words from to
+  pub none : Zeros words from to → rest ≡ 0
 
-pub counted-none : (words : List ℕ) (from n : ℕ) → n ≡ 0 → Counted words from from n
-counted-none words from n e = record { begun = omega arith; few = omega arith; all = λ z k a b. absurd (omega arith); full = λ z. omega arith }
+pub together-none : (words : List ℕ) (from : ℕ) → Together words from from 0
+together-none words from = record { begun = omega arith; all = λ z k a b. absurd (omega arith); none = λ z. refl }
 
-pub counted-one : {words : List ℕ} {from to n : ℕ} → Counted words from to n → (r : ℕ) → r ≤ 1 → (r ≡ 1 → getD words to 0 ≡ 0) → (getD words to 0 ≡ 0 → r ≡ 1)
-    → Counted words from (to + 1) (n + r)
-counted-one {words} {from} {to} {n} p r small is back =
+pub together-one : {words : List ℕ} {from to rest : ℕ} → Together words from to rest → Together words from (to + 1) (bitOr rest (getD words to 0))
+together-one {words} {from} {to} {rest} p =
+    let least = or-least rest (getD words to 0) in
     record {
       begun = omega (arith, p .begun);
-      few = omega (arith, p .few);
       all = λ e k a b.
-          ⊎-elim (λ (z : k ≡ to). rw z (is (omega (arith, p .few))))
-          (λ (l : k < to). p .all (omega (arith, p .few)) k a l)
+          ⊎-elim (λ (z : k ≡ to). rw z (omega (arith, least .1)))
+          (λ (l : k < to). p .all (omega (arith, least .0)) k a l)
           (let o : k ≤ to = omega arith in eq-or-lt-of-le o);
-      full = λ z. omega (arith, p .full (λ k a b. z k a (omega arith)), back (z to (p .begun) (omega arith)));
+      none = λ z. ap₂ bitOr (p .none (λ k a b. z k a (omega arith))) (z to (p .begun) (omega arith));
     }
 
 -- ---- the places
@@ -93,19 +96,12 @@ module _ (words : List ℕ) where
       let rest : allUnused (drop (c + 1) (leapsAt words maxLeaps)) ≡ true = unused-of n (c + 1) (omega arith) (λ k a b. z k (omega arith) b) in
       rw (at-place (laidOut words) full c (omega arith), leap-there words 256 c (omega arith)) (simp (here, rest))
 
-  -- so a full count of the words after c leaps tells that the places after them are unused
-  pub count-tells : (c n : ℕ) → c ≤ 256 → Counted words (2 * c) 512 n → eqb (2 * c + n) 512 ≡ allUnused (drop c (leapsAt words maxLeaps))
-  count-tells c n r p =
-      by-bool (eqb (2 * c + n) 512)
-      (λ t. t ∙ sym (unused-of (256 - c) c (omega arith) (p .all (eqb-true (2 * c + n) 512 t))))
+  -- so the words after c leaps, put together, tell whether the places after them are unused
+  pub together-tells : (c rest : ℕ) → c ≤ 256 → Together words (2 * c) 512 rest → eqb rest 0 ≡ allUnused (drop c (leapsAt words maxLeaps))
+  together-tells c rest r p =
+      by-bool (eqb rest 0)
+      (λ t. t ∙ sym (unused-of (256 - c) c (omega arith) (p .all (eqb-true rest 0 t))))
       (λ t.
       by-bool (allUnused (drop c (leapsAt words maxLeaps)))
-      (λ u. absurd (eqb-false (2 * c + n) 512 t (p .full (zeros-of c r u))))
+      (λ u. absurd (eqb-false rest 0 t (p .none (zeros-of c r u))))
       (λ u. t ∙ sym u))
-
-  -- and so does a number of words that are not 0
-  pub missing-tells : (c n : ℕ) → c ≤ 256 → Counted words (2 * c) 512 n → eqb (512 - (2 * c + n)) 0 ≡ allUnused (drop c (leapsAt words maxLeaps))
-  missing-tells c n r p =
-      by-bool (eqb (2 * c + n) 512)
-      (λ t. eq-eqb (512 - (2 * c + n)) 0 (omega (arith, eqb-true (2 * c + n) 512 t)) ∙ (sym t ∙ count-tells c n r p))
-      (λ t. ne-eqb (512 - (2 * c + n)) 0 (λ e. eqb-false (2 * c + n) 512 t (omega (arith, p .few))) ∙ (sym t ∙ count-tells c n r p))

@@ -15,6 +15,7 @@ pub mod Places
 pub mod LaidOut
 pub mod Clear
 pub mod Placed
+pub mod Stretched
 pub mod Preparing
 pub mod Filled
 pub mod Signed

@@ -3,14 +3,14 @@
 use mathlib.Core.Bool.{Bool, true, false, _&&_, and-assoc, and-true, and-false, true≢false}
 use mathlib.Core.List.{List, [], _∷_}
 use mathlib.Core.Path.{_≡_, refl, sym, ap, _∙_}
-use Prim.Native.Nat.{ℕ, zero, suc, _+_, _≤_, _<_}
+use Prim.Native.Nat.{ℕ, zero, suc, _+_, _-_, _*_, _%_, _≤_, _<_}
 use native.Mathlib.Numerals.{add-one}
 use native.Mathlib.Decide.{decLt}
 use native.Mathlib.Omega.{arith}
 use lib.Dec.{leb, eqb}
 use lib.ListN.{length, drop, getD, drop-of-length-le}
 use lib.Seq.{drop-cons}
-use borrow.Author.Tests.{le-leb, lt-leb, lt-ltb, le-ltb, ne-eqb}
+use borrow.Author.Tests.{le-leb, lt-leb, lt-ltb, le-ltb, eq-eqb, ne-eqb}
 use Rattle.calendar.specs.Calendar.{firstDay, lastMonth, endDay, monthStart, InMonth, monthAt}
 use Rattle.calendar.specs.declared.Lookup.{Lookup}
 use Rattle.calendar.proofs.Laws.{started, not-started, in-month, month-below, at-given, answered, early, late, given}
@@ -18,16 +18,17 @@ use Rattle.schedule.specs.declared.Sign.{Sign}
 use Rattle.schedule.specs.declared.Sign.the-variants.{Positive, Negative}
 use Rattle.schedule.specs.declared.Leap.{Leap}
 use Rattle.schedule.specs.declared.Schedule.{Schedule}
-use Rattle.schedule.specs.Schedule.{maxLeaps, noLeap, leapsOf, gapFits, gapsFit, isUnused, allUnused, wellFormed}
+use Rattle.schedule.specs.Schedule.{maxLeaps, maxGap, noLeap, leapsOf, gapFits, gapsFit, isUnused, allUnused, wellFormed}
 use Rattle.schedule.specs.Extends.{sameSign}
 use Rattle.schedule.proofs.Formed.{in-use, used, gap-last, unused-last}
+use Rattle.schedule.proofs.Gaps.{fits-lt, fits-le}
 use Rattle.clock.specs.declared.days.Ending.{Ending}
 use Rattle.clock.specs.declared.days.Ending.the-variants.{Ordinary, Inserted, Deleted}
 use Rattle.clock.specs.declared.look.Survey.{Survey}
 use Rattle.clock.specs.declared.days.Day.{Day}
 use Rattle.clock.specs.Days.{count, tally, ending}
 use Rattle.clock.specs.Known.{lastDay, knownTo, known}
-use Rattle.clock.specs.Inner.{reached, upTo, Tallied, Surveyed, TalliedOn, SurveyedOn, endingBy, dayOn, ListFor, DayFor, nearDay}
+use Rattle.clock.specs.Inner.{wordsHalf, Surveyed, SurveyedOn, endingBy, dayOn, ListFor, DayFor, nearDay}
 use Rattle.clock.proofs.Leaps.{part}
 use Rattle.clock.proofs.Tai.{count-small, last-inside, tally-after}
 
@@ -38,34 +39,38 @@ pub eqb-sum : (a b : ℕ) → eqb (a + b) 0 ≡ (eqb a 0 && eqb b 0)
 eqb-sum zero b = let z : 0 + b ≡ b = omega arith in rw z
 eqb-sum (suc a) b = ne-eqb (suc a + b) 0 (λ e. omega arith) ∙ sym (rw (ne-eqb (suc a) 0 (λ e. omega arith)))
 
--- one more test, and what is left to test
-one-more : (faults r : ℕ) (now rest : Bool) → eqb r 0 ≡ now → (eqb faults 0 && (now && rest)) ≡ (eqb (faults + r) 0 && rest)
-one-more faults r now rest e = sym (and-assoc (eqb faults 0) now rest) ∙ ap (λ b. b && rest) (sym (eqb-sum faults r ∙ ap (λ b. eqb faults 0 && b) e))
+-- one more test, which counts where there was no fault before, and what is left to test
+one-more : (faults r : ℕ) (now rest : Bool) → (faults ≡ 0 → eqb r 0 ≡ now) → (eqb faults 0 && (now && rest)) ≡ (eqb (faults + r) 0 && rest)
+one-more zero r now rest e = let z : 0 + r ≡ r = omega arith in rw (z, e refl)
+one-more (suc faults) r now rest e = rw (ne-eqb (suc faults) 0 (λ z. omega arith), ne-eqb (suc faults + r) 0 (λ z. omega arith))
 
-reached-small : (sign : Sign) (l : Leap) (month : ℕ) → reached sign l month ≤ 1
-reached-small sign l month = count-small (sameSign sign (l .sign) && leb (l .month) month)
+-- ---- a gap told by two differences of 32 bits, which wrap round
+module _ (from to gap past : ℕ) (d : (gap + from) % 4_294_967_296 ≡ to) (e : (past + 1) % 4_294_967_296 ≡ gap) where
+  pub gap-near : from < wordsHalf → past < maxGap → gapFits from to ≡ true
+  gap-near f h = simp (lt-ltb from to (omega arith), le-leb (to - from) maxGap (omega arith))
 
--- a leap after the month is not counted
-pub reached-late : (sign : Sign) (l : Leap) (month : ℕ) → month < l .month → 0 ≡ reached sign l month
-reached-late sign l month h = rw (lt-leb (l .month) month h, and-false (sameSign sign (l .sign)))
+  pub gap-far : from < 4_294_967_296 → gap < 4_294_967_296 → past < 4_294_967_296 → maxGap ≤ past → gapFits from to ≡ false
+  gap-far f g p h =
+      elim (decLt from to) [
+        | yes l ↦ simp (lt-ltb from to l, lt-leb (to - from) maxGap (omega arith))
+        | no l ↦ simp (le-ltb from to (omega arith))
+      ]
 
--- ---- the leaps in use, up to place i: the faults in the gaps, and the tallies
-pub record Looked (s : Schedule) (month next faults last up down upnext downnext i : ℕ) : Type 0 where
+-- ---- the leaps in use, up to place i: the faults in the gaps, and how great the month is where there is none
+pub record Gapped (s : Schedule) (faults last i : ℕ) : Type 0 where
   pub place : i ≤ s .count
   pub gaps : gapsFit 0 (leapsOf s) (s .expiry) ≡ (eqb faults 0 && gapsFit last (drop i (leapsOf s)) (s .expiry))
-  pub ups : upTo Positive (leapsOf s) month ≡ up + upTo Positive (drop i (leapsOf s)) month
-  pub downs : upTo Negative (leapsOf s) month ≡ down + upTo Negative (drop i (leapsOf s)) month
-  pub upnexts : upTo Positive (leapsOf s) next ≡ upnext + upTo Positive (drop i (leapsOf s)) next
-  pub downnexts : upTo Negative (leapsOf s) next ≡ downnext + upTo Negative (drop i (leapsOf s)) next
-  pub few : (faults ≤ i) × (up ≤ i) × (down ≤ i) × (upnext ≤ i) × (downnext ≤ i)
+  pub few : faults ≤ i
+  pub small : faults ≡ 0 → last ≤ maxGap * i
 
-pub looked-none : (s : Schedule) (month next : ℕ) → Looked s month next 0 0 0 0 0 0 0
-looked-none s month next =
-    record { place = omega arith; gaps = refl; ups = omega arith; downs = omega arith; upnexts = omega arith; downnexts = omega arith; few = omega arith }
+pub gapped-none : (s : Schedule) → Gapped s 0 0 0
+gapped-none s = record { place = omega arith; gaps = refl; few = omega arith; small = λ e. omega arith }
 
-module _ (s : Schedule) (full : length (s .leaps) ≡ maxLeaps) (room : s .count ≤ maxLeaps) (month next faults last up down upnext downnext i : ℕ)
-    (p : Looked s month next faults last up down upnext downnext i) where
-  gaps-one : (at r : ℕ) → i < s .count → at ≡ getD (s .leaps) i noLeap .month → eqb r 0 ≡ gapFits last at
+module _ (s : Schedule) (full : length (s .leaps) ≡ maxLeaps) (room : s .count ≤ maxLeaps) (faults last i : ℕ) (p : Gapped s faults last i) where
+  below-half : faults ≡ 0 → last < wordsHalf
+  below-half e = omega (arith, p .small e, p .place)
+
+  gaps-one : (at r : ℕ) → i < s .count → at ≡ getD (s .leaps) i noLeap .month → (faults ≡ 0 → eqb r 0 ≡ gapFits last at)
       → gapsFit 0 (leapsOf s) (s .expiry) ≡ (eqb (faults + r) 0 && gapsFit at (drop (i + 1) (leapsOf s)) (s .expiry))
   unfolding gapsFit
   gaps-one at r h m e =
@@ -73,44 +78,25 @@ module _ (s : Schedule) (full : length (s .leaps) ≡ maxLeaps) (room : s .count
       ∙ ap (λ ls. eqb faults 0 && gapsFit last ls (s .expiry)) (in-use s i (omega (arith, used s full i room)))
       ∙ rw (← m) (one-more faults r (gapFits last at) (gapsFit at (drop (i + 1) (leapsOf s)) (s .expiry)) e)
 
-  pub looked-one : (at r a b c d : ℕ) → i < s .count → at ≡ getD (s .leaps) i noLeap .month → (eqb r 0 ≡ gapFits last at) × (r ≤ 1)
-      → a ≡ reached Positive (getD (s .leaps) i noLeap) month → b ≡ reached Negative (getD (s .leaps) i noLeap) month
-      → c ≡ reached Positive (getD (s .leaps) i noLeap) next → d ≡ reached Negative (getD (s .leaps) i noLeap) next
-      → Looked s month next (faults + r) at (up + a) (down + b) (upnext + c) (downnext + d) (i + 1)
-  looked-one at r a b c d h m e ea eb ec ed =
-      let l = getD (s .leaps) i noLeap in
-      let step = in-use s i (omega (arith, used s full i room)) in
+  pub gapped-one : (at r : ℕ) → i < s .count → at ≡ getD (s .leaps) i noLeap .month → (last < wordsHalf → eqb r 0 ≡ gapFits last at) × (r ≤ 1) → Gapped s (faults + r) at (i + 1)
+  gapped-one at r h m e =
+      let fit : faults ≡ 0 → eqb r 0 ≡ gapFits last at = λ z. e .0 (below-half z) in
       record {
         place = omega arith;
-        gaps = gaps-one at r h m (e .0);
-        ups = omega (arith, p .ups, ap (λ ls. upTo Positive ls month) step);
-        downs = omega (arith, p .downs, ap (λ ls. upTo Negative ls month) step);
-        upnexts = omega (arith, p .upnexts, ap (λ ls. upTo Positive ls next) step);
-        downnexts = omega (arith, p .downnexts, ap (λ ls. upTo Negative ls next) step);
-        few = (
-          omega (arith, p .few .0, e .1),
-          omega (arith, p .few .1, reached-small Positive l month),
-          omega (arith, p .few .2, reached-small Negative l month),
-          omega (arith, p .few .3, reached-small Positive l next),
-          omega (arith, p .few .4, reached-small Negative l next),
-        );
+        gaps = gaps-one at r h m fit;
+        few = omega (arith, p .few, e .1);
+        small = λ z.
+            let none : faults ≡ 0 = omega arith in
+            let good : gapFits last at ≡ true = sym (fit none) ∙ eq-eqb r 0 (omega arith) in
+            omega (arith, p .small none, fits-lt last at good, fits-le last at good);
       }
 
   -- after the last leap
-  module _ (h : s .count ≤ i) where
-    pub looked-all : (v : Survey) → v .up ≡ up → v .down ≡ down → v .upnext ≡ upnext → v .downnext ≡ downnext → Tallied s month next v
-    looked-all v ea eb ec ed =
-        let e = drop-of-length-le (leapsOf s) {i = i} (omega (arith, used s full i room)) in
-        record {
-          up = omega (arith, p .ups, ap (λ ls. upTo Positive ls month) e);
-          down = omega (arith, p .downs, ap (λ ls. upTo Negative ls month) e);
-          upNext = omega (arith, p .upnexts, ap (λ ls. upTo Positive ls next) e);
-          downNext = omega (arith, p .downnexts, ap (λ ls. upTo Negative ls next) e);
-        }
-
-    pub looked-gaps : (r : ℕ) → eqb r 0 ≡ gapFits last (s .expiry) → gapsFit 0 (leapsOf s) (s .expiry) ≡ eqb (faults + r) 0
-    looked-gaps r e =
-        p .gaps ∙ ap (λ b. eqb faults 0 && b) (gap-last s full i room h last (s .expiry) ∙ sym e) ∙ sym (eqb-sum faults r)
+  pub gapped-all : s .count ≤ i → (r : ℕ) → (last < wordsHalf → eqb r 0 ≡ gapFits last (s .expiry)) → gapsFit 0 (leapsOf s) (s .expiry) ≡ eqb (faults + r) 0
+  gapped-all h r e =
+      p .gaps
+      ∙ ap (λ b. eqb faults 0 && b) (gap-last s full i room h last (s .expiry) ∙ sym (and-true (gapFits last (s .expiry))))
+      ∙ (one-more faults r (gapFits last (s .expiry)) true (λ z. e (below-half z)) ∙ and-true (eqb (faults + r) 0))
 
 -- ---- the places that are not in use, up to place i
 pub record Rest (s : Schedule) (faults i : ℕ) : Type 0 where
@@ -132,19 +118,15 @@ module _ (s : Schedule) (full : length (s .leaps) ≡ maxLeaps) (faults i : ℕ)
         record {
           place = omega arith;
           few = omega (arith, p .few, e .1);
-          well = p .well ∙ ap (λ ls. eqb faults 0 && allUnused ls) step ∙ one-more faults r (isUnused x) (allUnused (drop (i + 1) (s .leaps))) (e .0);
+          well = p .well ∙ ap (λ ls. eqb faults 0 && allUnused ls) step ∙ one-more faults r (isUnused x) (allUnused (drop (i + 1) (s .leaps))) (λ z. e .0);
         }
 
     pub rest-all : maxLeaps ≤ i → eqb faults 0 ≡ wellFormed s
     rest-all h = sym (p .well ∙ rw (unused-last s full i h, and-true (eqb faults 0)))
 
-    -- the rest counted at once
-    pub rest-cleared : (r : ℕ) → eqb r 0 ≡ allUnused (drop i (s .leaps)) → eqb (faults + r) 0 ≡ wellFormed s
-    rest-cleared r e = eqb-sum faults r ∙ (ap (λ b. eqb faults 0 && b) e ∙ sym (p .well))
-
 -- ---- a schedule that is not well formed
-pub not-well : (s : Schedule) (month next : ℕ) (v : Survey) → v .well ≡ false → wellFormed s ≡ false → Surveyed s month next v
-not-well s month next v e h = record { well = e ∙ sym h; tallied = λ w. absurd (true≢false (sym w ∙ h)) }
+pub not-well : (s : Schedule) (month day : ℕ) (v : Survey) → v .well ≡ false → wellFormed s ≡ false → Surveyed s month day v
+not-well s month day v e h = record { well = e ∙ sym h; tallied = λ w. absurd (true≢false (sym w ∙ h)) }
 
 pub too-many : (s : Schedule) → maxLeaps < s .count → wellFormed s ≡ false
 too-many s h = rw (lt-leb (s .count) maxLeaps h)
@@ -152,18 +134,7 @@ too-many s h = rw (lt-leb (s .count) maxLeaps h)
 pub too-late : (s : Schedule) → s .count ≤ maxLeaps → lastMonth < s .expiry → wellFormed s ≡ false
 too-late s room h = rw (le-leb (s .count) maxLeaps room, lt-leb (s .expiry) lastMonth h)
 
--- ---- what a look by the months of a day and of the next says of the day
-
-leb-month : {day m : ℕ} (k : ℕ) → InMonth day m → leb (monthStart k) day ≡ leb k m
-leb-month {day} {m} k i =
-    elim (decLt day (monthStart k)) [
-      | yes l ↦ lt-leb (monthStart k) day l ∙ sym (lt-leb k m (not-started k i l))
-      | no l ↦ let h : monthStart k ≤ day = omega arith in le-leb (monthStart k) day h ∙ sym (le-leb k m (started k i h))
-    ]
-
-tally-is : (sign : Sign) (ls : List Leap) {day m : ℕ} → InMonth day m → tally sign ls day ≡ upTo sign ls m
-tally-is sign [] i = refl
-tally-is sign (l ∷ ls) i = rw (leb-month (l .month) i, tally-is sign ls i)
+-- ---- what a look for a day says of it
 
 pub ending-inserted : (v : Survey) → v .up < v .upnext → endingBy v ≡ Inserted
 ending-inserted v h = rw (lt-ltb (v .up) (v .upnext) h)
@@ -194,33 +165,14 @@ day-surveyed {s} {day} {v} f last e =
           rw (ends, f .well, t .up, t .down, e w);
     }
 
--- the calendar's lookup gives a month below 2400, and the day's month where it has one
-pub month-small : (day : ℕ) {r : Lookup} → r ≡ monthAt day → r .month < lastMonth
-month-small day e =
-    elim (answered {d = day} e) [
-      | early l f ↦ rw f (omega arith)
-      | late l f ↦ rw f (omega arith)
-      | given p q f ↦ rw f (month-below p q)
-    ]
-
-pub month-found : {day : ℕ} {r : Lookup} → r ≡ monthAt day → firstDay ≤ day → day < endDay → InMonth day (r .month)
-month-found e p q = rw (e ∙ at-given p q) (in-month p q)
-
--- a survey by the months of a day and of the next is one for the day
-pub surveyed-on : {s : Schedule} {day next : ℕ} {r : Lookup} {v : Survey} → r ≡ monthAt day → (InMonth day (r .month) → InMonth (day + 1) next) → Surveyed s (r .month) next v
-    → SurveyedOn s day v
-surveyed-on {s} {day} e n f =
+-- a survey for a day of the month that the calendar's lookup gives is one for the day
+pub surveyed-on : {s : Schedule} {day : ℕ} {r : Lookup} {v : Survey} → r ≡ monthAt day → Surveyed s (r .month) day v → SurveyedOn s day v
+surveyed-on {s} {day} {r} e f =
     record {
       well = f .well;
       tallied = λ w p q.
-          let own = month-found e p (omega (arith, last-inside s w)) in
-          let t = f .tallied w in
-          record {
-            up = t .up ∙ sym (tally-is Positive (leapsOf s) own);
-            down = t .down ∙ sym (tally-is Negative (leapsOf s) own);
-            upNext = t .upNext ∙ sym (tally-is Positive (leapsOf s) (n own));
-            downNext = t .downNext ∙ sym (tally-is Negative (leapsOf s) (n own));
-          };
+          let inside : day < endDay = omega (arith, last-inside s w) in
+          f .tallied w (rw (e ∙ at-given p inside) (in-month p inside));
     }
 
 -- the last day, found before the day, is the one found with it

@@ -1,17 +1,16 @@
 -- What the loops keep that prepare a list for many questions.
 -- Assumes nothing.
 use mathlib.Core.Bool.{Bool, true}
-use mathlib.Core.List.{List, [], _∷_, _++_}
+use mathlib.Core.List.{List}
 use mathlib.Core.Logic.{⊎-elim}
 use mathlib.Core.Path.{_≡_, refl, sym, ap, _∙_}
 use Prim.Native.Nat.{ℕ, zero, suc, _+_, _-_, _*_, _≤_, _<_}
 use native.Mathlib.Decide.{decLt}
 use native.Mathlib.Nat.{eq-or-lt-of-le}
-use native.Mathlib.Numerals.{add-one}
 use native.Mathlib.Omega.{arith}
 use lib.Dec.{eqb}
 use lib.ListN.{length, getD, take, set, replicate, length-set, length-replicate, getD-replicate}
-use lib.Seq.{take-suc, set-out, getD-set-same, getD-set-other}
+use lib.Seq.{set-out, getD-set-same, getD-set-other}
 use borrow.Author.Tests.{eqb-true, eqb-false}
 use Rattle.calendar.specs.Calendar.{lastMonth, endDay, monthStart}
 use Rattle.schedule.specs.declared.Sign.{Sign}
@@ -25,6 +24,7 @@ use Rattle.schedule.proofs.Cases.{by-bool}
 use Rattle.clock.specs.Days.{count}
 use Rattle.clock.specs.Inner.{far, ofSign, Starts, Fenced, Tallies, Guesses, Prepared, Ready}
 use Rattle.clock.proofs.LaidOut.{last-meant, full-meant}
+use Rattle.clock.proofs.Placed.{of-sign-next}
 
 -- ---- the days on which the first i leaps take effect
 pub record Starting (s : Schedule) (starts : List ℕ) (i : ℕ) : Type 0 where
@@ -79,10 +79,6 @@ starting-not s bad = (
 
 -- ---- how many of the first i leaps have a sign
 
-of-sign-one : (sign : Sign) (ls : List Leap) (l : Leap) → ofSign sign (ls ++ (l ∷ [])) ≡ ofSign sign ls + count (sameSign sign (l .sign))
-of-sign-one sign [] l = omega arith
-of-sign-one sign (x ∷ ls) l = omega (arith, of-sign-one sign ls l)
-
 pub record Tallying (s : Schedule) (sign : Sign) (tallies : List ℕ) (n i : ℕ) : Type 0 where
   pub size : length tallies ≡ 258
   pub place : i ≤ s .count
@@ -103,8 +99,7 @@ tallying-none s sign =
 pub tallying-one : {s : Schedule} {sign : Sign} {tallies : List ℕ} {n i : ℕ} → Tallying s sign tallies n i → length (leapsOf s) ≡ s .count → s .count ≤ 256 → i < s .count → (r : ℕ)
     → (r ≡ count (sameSign sign (getD (leapsOf s) i noLeap .sign))) × (r ≤ 1) → Tallying s sign (set tallies (i + 1) (n + r)) (n + r) (i + 1)
 tallying-one {s} {sign} {tallies} {n} {i} p full room h r e =
-    let step : take (i + 1) (leapsOf s) ≡ take i (leapsOf s) ++ (getD (leapsOf s) i noLeap ∷ []) = rw (add-one i) (take-suc (leapsOf s) i noLeap (omega arith)) in
-    let sum : n + r ≡ ofSign sign (take (i + 1) (leapsOf s)) = rw step (omega (arith, p .sum, e .0, of-sign-one sign (take i (leapsOf s)) (getD (leapsOf s) i noLeap))) in
+    let sum : n + r ≡ ofSign sign (take (i + 1) (leapsOf s)) = omega (arith, p .sum, e .0, of-sign-next sign (leapsOf s) i (omega arith)) in
     record {
       size = length-set tallies (i + 1) (n + r) ∙ p .size;
       place = omega arith;

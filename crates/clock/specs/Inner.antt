@@ -1,13 +1,13 @@
--- What only the private functions of src/ are held to: the tallies by month numbers, what one look at a schedule finds, and what it
--- says of a day. No public contract and no promise speaks of these.
+-- What only the private functions of src/ are held to: the leaps by a month, what one look at a schedule finds, and what it says of a
+-- day. No public contract and no promise speaks of these.
 -- Assumes nothing: these are definitions.
-use mathlib.Core.Bool.{Bool, true, cond, _&&_}
+use mathlib.Core.Bool.{Bool, true, cond}
 use mathlib.Core.List.{List, [], _∷_}
 use mathlib.Core.Path.{_≡_}
 use Prim.Native.Nat.{ℕ, zero, suc, _+_, _-_, _*_, _/_, _≤_, _<_, min}
-use lib.Dec.{leb, ltb}
+use lib.Dec.{ltb}
 use lib.ListN.{length, getD, take}
-use Rattle.calendar.specs.Calendar.{firstDay, endDay, monthStart}
+use Rattle.calendar.specs.Calendar.{firstDay, endDay, monthStart, InMonth}
 use Rattle.schedule.specs.declared.Sign.{Sign}
 use Rattle.schedule.specs.declared.Sign.the-variants.{Positive, Negative}
 use Rattle.schedule.specs.declared.Leap.{Leap}
@@ -23,26 +23,30 @@ use Rattle.clock.specs.Known.{lastDay, taiCutoff, knownTo}
 use Rattle.clock.specs.Question.{Answer, given, refused, require, Utc}
 use Rattle.refusals.specs.Refusals.{notKnown}
 
--- 1 if the leap has the sign and lies at the month or before it, else 0
-abbrev pub reached : Sign → Leap → ℕ → ℕ
-reached sign l month = count (sameSign sign (l .sign) && leb (l .month) month)
+-- how many of the leaps have the sign
+abbrev pub ofSign : Sign → List Leap → ℕ
+ofSign sign [] = 0
+ofSign sign (l ∷ ls) = count (sameSign sign (l .sign)) + ofSign sign ls
 
--- how many of the leaps have the sign and lie at the month or before it
-abbrev pub upTo : Sign → List Leap → ℕ → ℕ
-upTo sign [] month = 0
-upTo sign (l ∷ ls) month = reached sign l month + upTo sign ls month
+-- of leaps in their order the first n lie at a month or before it, and the next one after it
+pub record ByMonth (ls : List Leap) (month n : ℕ) : Type 0 where
+  pub room : n ≤ length ls
+  pub by : (i : ℕ) → i < n → getD ls i noLeap .month ≤ month
+  pub after : n < length ls → month < getD ls n noLeap .month
 
--- the tallies of a survey are those of two months
-pub record Tallied (s : Schedule) (month next : ℕ) (v : Survey) : Type 0 where
-  pub up : v .up ≡ upTo Positive (leapsOf s) month
-  pub down : v .down ≡ upTo Negative (leapsOf s) month
-  pub upNext : v .upnext ≡ upTo Positive (leapsOf s) next
-  pub downNext : v .downnext ≡ upTo Negative (leapsOf s) next
+-- so many of the first n leaps are negative
+pub record Lowered (ls : List Leap) (n down : ℕ) : Type 0 where
+  pub sum : down ≡ ofSign Negative (take n ls)
+  pub few : down ≤ n
 
--- a survey says whether the schedule is well formed; where it is, the tallies are right
-pub record Surveyed (s : Schedule) (month next : ℕ) (v : Survey) : Type 0 where
-  pub well : v .well ≡ wellFormed s
-  pub tallied : wellFormed s ≡ true → Tallied s month next v
+-- leap n has that month and sign; where there is none, the month is 0
+pub record Ahead (ls : List Leap) (n next : ℕ) (sign : Sign) : Type 0 where
+  pub some : n < length ls → getD ls n noLeap ≡ record { month = next; sign = sign }
+  pub none : length ls ≤ n → next ≡ 0
+
+-- half the numbers of 32 bits: no month of a list is as great
+abbrev pub wordsHalf : ℕ
+wordsHalf = 2_147_483_648
 
 -- the tallies of a survey are those of a day and of the next
 pub record TalliedOn (s : Schedule) (day : ℕ) (v : Survey) : Type 0 where
@@ -50,6 +54,11 @@ pub record TalliedOn (s : Schedule) (day : ℕ) (v : Survey) : Type 0 where
   pub down : v .down ≡ tally Negative (leapsOf s) day
   pub upNext : v .upnext ≡ tally Positive (leapsOf s) (day + 1)
   pub downNext : v .downnext ≡ tally Negative (leapsOf s) (day + 1)
+
+-- a survey for a day of a month: whether the schedule is well formed; where it is, the tallies are right
+pub record Surveyed (s : Schedule) (month day : ℕ) (v : Survey) : Type 0 where
+  pub well : v .well ≡ wellFormed s
+  pub tallied : wellFormed s ≡ true → InMonth day month → TalliedOn s day v
 
 -- a survey for a day: where the schedule is well formed, the tallies are right for a day from 1972 through the last one
 pub record SurveyedOn (s : Schedule) (day : ℕ) (v : Survey) : Type 0 where
@@ -104,11 +113,6 @@ onDay day t last = require (knownTo last taiCutoff day t) notKnown (given (recor
 -- a day after all that are asked about
 abbrev pub far : ℕ
 far = 4_294_967_295
-
--- how many of the leaps have the sign
-abbrev pub ofSign : Sign → List Leap → ℕ
-ofSign sign [] = 0
-ofSign sign (l ∷ ls) = count (sameSign sign (l .sign)) + ofSign sign ls
 
 -- the days on which the leaps of a well-formed schedule take effect stand from place 1 on, and after them `far`
 pub record Starts (s : Schedule) (starts : List ℕ) : Type 0 where

@@ -1,7 +1,7 @@
 // What a schedule says of a day, from one look at the schedule and one lookup in the calendar.
 ghost use mathlib.Core.Path.{_≡_};
 ghost use Prim.Native.Nat.{ℕ, _+_, _-_, _≤_, _<_};
-ghost use Rattle.calendar.specs.Calendar.{firstDay, lastMonth, endDay, monthStart, InMonth};
+ghost use Rattle.calendar.specs.Calendar.{firstDay, lastMonth, endDay, monthStart};
 ghost use Rattle.clock.specs.Days.{dayLength, tai};
 ghost use Rattle.clock.specs.Known.{lastDay};
 ghost use mathlib.Core.Bool.{true};
@@ -70,18 +70,6 @@ pub(crate) fn day_before(month: u32) -> u64
     calendar::first_day(month as u16) - 1
 }
 
-// The month of the next day, for a day of the month: the same or the next one.
-fn next_month(day: u64, month: u16) -> u16
-    requires { ⌜ month < lastMonth ⌝ }
-    ensures { λ r. ⌜ (InMonth day month → InMonth (day + 1) r) ⌝ }
-{
-    let next = month + 1;
-    if calendar::first_day(next) - 1 == day {
-        return next;
-    }
-    month
-}
-
 // How a day ends, by the leaps in effect on it and on the next day.
 fn ending_by(v: Survey) -> Ending
     ensures { λ r. ⌜ r ≡ endingBy v ⌝ }
@@ -114,8 +102,7 @@ pub(crate) fn day_at(s: Schedule, day: u64) -> Day
     ensures { λ r. ⌜ DayFor s day r ⌝ }
 {
     let found = calendar::month_of(day);
-    let month = found.month;
-    let v = look(s, month, next_month(day, month));
+    let v = look(s, found.month, day);
     day_by(v, day_before(s.expiry))
 }
 
@@ -124,8 +111,7 @@ pub(crate) fn day_in(words: &[u32; 514], last: u64, day: u64) -> Day
     ensures { λ r. ⌜ ((wellFormed (meant (now (words .entry))) ≡ true → last ≡ lastDay (meant (now (words .entry)))) → DayFor (meant (now (words .entry))) day r) ⌝ }
 {
     let found = calendar::month_of(day);
-    let month = found.month;
-    let v = look_at(words, wide(month), wide(next_month(day, month)));
+    let v = look_at(words, wide(found.month), day);
     day_by(v, last)
 }
 

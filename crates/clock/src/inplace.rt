@@ -1,15 +1,20 @@
-// One look at a schedule as 514 words, with no copy of them: whether they stand for a well-formed schedule, and how many leaps of each sign
-// lie at a month or before it.
+// A schedule as 514 words, looked at where it stands: whether it is well formed, and what it says of a day.
 ghost use mathlib.Core.Path.{_≡_};
-ghost use Prim.Native.Nat.{_≤_, _<_};
+ghost use mathlib.Core.Bool.{true, _&&_};
+ghost use Prim.Native.Nat.{_≤_};
 ghost use lib.Dec.{eqb, ltb};
-ghost use Rattle.schedule.specs.WordLayout.{leapBy, meant};
-ghost use Rattle.schedule.specs.declared.Sign.the-variants.{Positive, Negative};
-ghost use Rattle.clock.specs.Inner.{reached, Surveyed};
+ghost use lib.ListN.{drop};
+ghost use Rattle.schedule.specs.Schedule.{maxLeaps, leapsOf, gapsFit, allUnused, wellFormed};
+ghost use Rattle.schedule.specs.WordLayout.{signOf, signsFit, countWord, expiryWord, leapsAt, laidOut, meant};
+ghost use Rattle.clock.specs.Inner.{ByMonth, Lowered, Surveyed};
 use crate::look::Survey;
 use crate::look::malformed;
 use crate::look::misfit;
+use crate::look::survey_by;
+use crate::look::takes;
+use crate::look::wide;
 use schedule::LAST_MONTH;
+use schedule::Sign;
 
 // 0 if a sign word is 0 or 1, else 1.
 fn unsigned(negative: u32) -> u32
@@ -21,96 +26,123 @@ fn unsigned(negative: u32) -> u32
     1
 }
 
-// 1 if a word is 0, else 0.
-fn blank(word: u32) -> u32
-    ensures { λ r. ⌜ (r ≤ 1) × (r ≡ 1 → word ≡ 0) × (word ≡ 0 → r ≡ 1) ⌝ }
-{
-    if word == 0 {
-        return 1;
-    }
-    0
-}
-
-// 1 if the leap is positive and lies at the month or before it, else 0.
-fn raises(at: u32, negative: u32, month: u32) -> u32
-    ensures { λ r. ⌜ (r ≡ reached Positive (leapBy at negative) month) × (r ≤ 1) ⌝ }
-{
-    if month < at {
-        return 0;
-    }
-    if negative == 0 {
-        return 1;
-    }
-    0
-}
-
-// 1 if the leap is negative and lies at the month or before it, else 0.
-fn lowers(at: u32, negative: u32, month: u32) -> u32
-    ensures { λ r. ⌜ (r ≡ reached Negative (leapBy at negative) month) × (r ≤ 1) ⌝ }
-{
-    if month < at {
-        return 0;
-    }
-    if negative == 0 {
-        return 0;
-    }
-    1
-}
-
-fn narrow(x: u32) -> u16
-    requires { ⌜ x < 65_536 ⌝ }
-    ensures { λ r. ⌜ r ≡ x ⌝ }
-{
-    x as u16
-}
-
-// As for a schedule, faults are counted beside the tallies, those of the gaps and those of the signs, so that no loop has a way out.
-pub(crate) fn look_at(words: &[u32; 514], month: u32, next: u32) -> Survey
-    ensures { λ r. ⌜ Surveyed (meant (now (words .entry))) month next r ⌝ }
+// Whether the gaps are 1 to 999 months, from month 0 over the leaps in use to the expiry, and the sign words 0 or 1. Faults are counted, so
+// that the loop has no way out and is compiled to vectors.
+fn leaps_fit(words: &[u32; 514]) -> bool
+    requires { ⌜ countWord (now words) ≤ maxLeaps ⌝ }
+    ensures { λ r. ⌜ r ≡ (signsFit (now (words .entry)) (countWord (now (words .entry))) && gapsFit 0 (leapsOf (laidOut (now (words .entry)))) (expiryWord (now (words .entry)))) ⌝ }
 {
     let count = words[512];
-    let expiry = words[513];
-    if 256 < count {
-        return malformed();
-    }
-    if LAST_MONTH < expiry {
-        return malformed();
-    }
     let mut signs: u32 = 0;
     let mut faults: u32 = 0;
     let mut last: u32 = 0;
-    let mut up: u32 = 0;
-    let mut down: u32 = 0;
-    let mut upnext: u32 = 0;
-    let mut downnext: u32 = 0;
     let mut i: usize = 0;
     while i < count as usize {
         let at = words[2 * i];
-        let negative = words[2 * i + 1];
-        signs += unsigned(negative);
+        signs += unsigned(words[2 * i + 1]);
         faults += misfit(last, at);
         last = at;
-        up += raises(at, negative, month);
-        down += lowers(at, negative, month);
-        upnext += raises(at, negative, next);
-        downnext += lowers(at, negative, next);
         i += 1;
     }
-    faults += misfit(last, expiry);
-    // The words after the leaps in use: those that are not 0 are faults too.
-    let mut clear: u32 = 0;
-    let mut j = 2 * i;
+    faults += misfit(last, words[513]);
+    signs + faults == 0
+}
+
+// Whether the words after the leaps in use are all 0, likewise.
+fn rest_clear(words: &[u32; 514]) -> bool
+    requires { ⌜ countWord (now words) ≤ maxLeaps ⌝ }
+    ensures { λ r. ⌜ r ≡ allUnused (drop (countWord (now (words .entry))) (leapsAt (now (words .entry)) maxLeaps)) ⌝ }
+{
+    let count = words[512];
+    let mut rest: u32 = 0;
+    let mut j = 2 * count as usize;
     while j < 512 {
-        clear += blank(words[j]);
+        rest |= words[j];
         j += 1;
     }
-    faults += 512 - (2 * count + clear);
-    let well = signs + faults == 0;
-    Survey {
-        well,
-        up: narrow(up),
-        down: narrow(down),
-        upnext: narrow(upnext),
-        downnext: narrow(downnext),
+    rest == 0
+}
+
+// Whether words stand for a well-formed schedule.
+pub(crate) fn is_list(words: &[u32; 514]) -> bool
+    ensures { λ r. ⌜ r ≡ wellFormed (meant (now (words .entry))) ⌝ }
+{
+    if 256 < words[512] {
+        return false;
     }
+    if LAST_MONTH < words[513] {
+        return false;
+    }
+    if leaps_fit(words) {
+        rest_clear(words)
+    } else {
+        false
+    }
+}
+
+// How many leaps a well-formed list has.
+pub(crate) fn leaps_in(words: &[u32; 514]) -> usize
+    requires { ⌜ wellFormed (meant (now words)) ≡ true ⌝ }
+    ensures { λ r. ⌜ (r ≡ meant (now (words .entry)) .count) × (r ≤ 256) ⌝ }
+{
+    let count = words[512];
+    count as usize
+}
+
+// The sign that a sign word stands for.
+fn sign_of(negative: u32) -> Sign
+    ensures { λ r. ⌜ r ≡ signOf negative ⌝ }
+{
+    if negative == 0 {
+        return Sign::Positive;
+    }
+    Sign::Negative
+}
+
+// How many leaps of a well-formed list lie at a month or before it, the last ones looked at first.
+fn leaps_by(words: &[u32; 514], month: u32) -> usize
+    requires { ⌜ wellFormed (meant (now words)) ≡ true ⌝ }
+    ensures { λ r. ⌜ ByMonth (leapsOf (meant (now (words .entry)))) month r ⌝ }
+{
+    let mut n = leaps_in(words);
+    while 0 < n {
+        let before = n - 1;
+        if words[2 * before] <= month {
+            return n;
+        }
+        n = before;
+    }
+    n
+}
+
+// How many of the first n leaps of a well-formed list are negative.
+fn lowered(words: &[u32; 514], n: usize) -> u32
+    requires { ⌜ (wellFormed (meant (now words)) ≡ true) × (n ≤ meant (now words) .count) ⌝ }
+    ensures { λ r. ⌜ Lowered (leapsOf (meant (now (words .entry)))) n r ⌝ }
+{
+    let mut down: u32 = 0;
+    let mut i: usize = 0;
+    while i < n {
+        let sign = sign_of(words[2 * i + 1]);
+        down += wide(takes(sign));
+        i += 1;
+    }
+    down
+}
+
+// The look at a schedule, for words.
+pub(crate) fn look_at(words: &[u32; 514], month: u32, day: u64) -> Survey
+    ensures { λ r. ⌜ Surveyed (meant (now (words .entry))) month day r ⌝ }
+{
+    if !is_list(words) {
+        return malformed();
+    }
+    let n = leaps_by(words, month);
+    let down = lowered(words, n);
+    if n < leaps_in(words) {
+        let next = words[2 * n];
+        let sign = sign_of(words[2 * n + 1]);
+        return survey_by(n, down, next as u16, sign, day);
+    }
+    survey_by(n, down, 0, Sign::Positive, day)
 }

@@ -1,12 +1,17 @@
-// One look at a schedule: whether it is well formed, and how many leaps of each sign lie at a month or before it.
-// No other function reads the places, for each that does copies the schedule.
+// One look at a schedule for a day: whether it is well formed, and how many leaps of each sign are in effect on the day and on the next.
+// The functions that read the places have one caller each: compiled into it they copy no schedule.
 ghost use mathlib.Core.Path.{_≡_};
-ghost use mathlib.Core.Bool.{false};
-ghost use Prim.Native.Nat.{_≤_, _<_};
+ghost use mathlib.Core.Bool.{true, false};
+ghost use Prim.Native.Nat.{ℕ, _≤_, _<_};
 ghost use lib.Dec.{eqb};
-ghost use Rattle.schedule.specs.Schedule.{gapFits, isUnused};
+ghost use lib.ListN.{length};
+ghost use Rattle.calendar.specs.Calendar.{lastMonth, InMonth};
+ghost use Rattle.schedule.specs.declared.Schedule.{Schedule};
+ghost use Rattle.schedule.specs.Schedule.{maxLeaps, leapsOf, gapFits, isUnused, wellFormed};
+ghost use Rattle.schedule.specs.Extends.{sameSign};
 ghost use Rattle.schedule.specs.declared.Sign.the-variants.{Positive, Negative};
-ghost use Rattle.clock.specs.Inner.{reached, Surveyed};
+ghost use Rattle.clock.specs.Days.{count};
+ghost use Rattle.clock.specs.Inner.{wordsHalf, ByMonth, Lowered, Ahead, TalliedOn, Surveyed};
 use schedule::LAST_MONTH;
 use schedule::Leap;
 use schedule::MAX_GAP;
@@ -14,7 +19,7 @@ use schedule::MAX_LEAPS;
 use schedule::Schedule;
 use schedule::Sign;
 
-// How many leaps of each sign lie at a month or before it, and at the next day's month or before it.
+// Whether a schedule is well formed, and how many leaps of each sign are in effect on a day and on the next.
 pub(crate) struct Survey {
     pub(crate) well: bool,
     pub(crate) up: u16,
@@ -29,17 +34,16 @@ pub(crate) fn wide(x: u16) -> u32
     x as u32
 }
 
-// 0 if the gap from a month to another is 1 to 999, else 1.
+// 0 if the gap from a month to another is 1 to 999, else 1. One comparison sees both ends: a gap below 1 wraps round to a great number. From a
+// month as great as no list has, a gap may wrap too.
 pub(crate) fn misfit(from: u32, to: u32) -> u32
-    ensures { λ r. ⌜ (eqb r 0 ≡ gapFits from to) × (r ≤ 1) ⌝ }
+    ensures { λ r. ⌜ (from < wordsHalf → eqb r 0 ≡ gapFits from to) × (r ≤ 1) ⌝ }
 {
-    if to <= from {
-        return 1;
+    let gap = std::num::wrapping_sub_u32(to, from);
+    if std::num::wrapping_sub_u32(gap, 1) < MAX_GAP {
+        return 0;
     }
-    if MAX_GAP < to - from {
-        return 1;
-    }
-    0
+    1
 }
 
 // 0 if a place holds month 0 and a positive sign, else 1.
@@ -58,28 +62,20 @@ fn used(l: Leap) -> u32
     }
 }
 
-// 1 if the leap is positive and lies at the month or before it, else 0.
-fn adds(l: Leap, month: u16) -> u16
-    ensures { λ r. ⌜ (r ≡ reached Positive l month) × (r ≤ 1) ⌝ }
+// 1 for a positive leap, else 0.
+fn adds(sign: Sign) -> u16
+    ensures { λ r. ⌜ (r ≡ count (sameSign Positive sign)) × (r ≤ 1) ⌝ }
 {
-    if month < l.month {
-        return 0;
-    }
-    let sign = l.sign;
     match sign {
         Sign::Positive => 1,
         Sign::Negative => 0,
     }
 }
 
-// 1 if the leap is negative and lies at the month or before it, else 0.
-fn takes(l: Leap, month: u16) -> u16
-    ensures { λ r. ⌜ (r ≡ reached Negative l month) × (r ≤ 1) ⌝ }
+// 1 for a negative leap, else 0.
+pub(crate) fn takes(sign: Sign) -> u16
+    ensures { λ r. ⌜ (r ≡ count (sameSign Negative sign)) × (r ≤ 1) ⌝ }
 {
-    if month < l.month {
-        return 0;
-    }
-    let sign = l.sign;
     match sign {
         Sign::Positive => 0,
         Sign::Negative => 1,
@@ -98,34 +94,52 @@ pub(crate) fn malformed() -> Survey
     }
 }
 
-// The schedule's faults are counted beside the tallies, so that no loop has a way out and each is compiled to vectors.
-pub(crate) fn look(s: Schedule, month: u16, next: u16) -> Survey
-    ensures { λ r. ⌜ Surveyed s month next r ⌝ }
+// The tallies of a day at whose month, or before it, n leaps lie, `down` of them negative; the next leap has that month and sign, and month 0
+// stands for none.
+pub(crate) fn survey_by(n: usize, down: u32, next: u16, sign: Sign, day: u64) -> Survey
+    requires { ⌜ (n ≤ maxLeaps) × (down ≤ n) × (next ≤ lastMonth) ⌝ }
+    ensures { λ r. ⌜ (r .well ≡ true) × ((s : Schedule) (month : ℕ) → wellFormed s ≡ true → ByMonth (leapsOf s) month n → Lowered (leapsOf s) n down → Ahead (leapsOf s) n next sign → InMonth day month → TalliedOn s day r) ⌝ }
+{
+    let up = (n as u32 - down) as u16;
+    let lowered = down as u16;
+    // Seldom a leap takes effect on the next day.
+    if calendar::first_day(next) - 1 == day {
+        return Survey {
+            well: true,
+            up,
+            down: lowered,
+            upnext: up + adds(sign),
+            downnext: lowered + takes(sign),
+        };
+    }
+    Survey {
+        well: true,
+        up,
+        down: lowered,
+        upnext: up,
+        downnext: lowered,
+    }
+}
+
+// Whether a schedule is well formed. Its faults are counted, so that no loop has a way out and each is compiled to vectors.
+fn is_list(s: Schedule) -> bool
+    ensures { λ r. ⌜ r ≡ wellFormed s ⌝ }
 {
     let count = s.count;
     let expiry = s.expiry;
     if MAX_LEAPS < count {
-        return malformed();
+        return false;
     }
     if LAST_MONTH < expiry {
-        return malformed();
+        return false;
     }
     let mut faults: u32 = 0;
     let mut last: u32 = 0;
-    let mut up: u16 = 0;
-    let mut down: u16 = 0;
-    let mut upnext: u16 = 0;
-    let mut downnext: u16 = 0;
     let mut i: usize = 0;
     while i < count {
-        let l = s.leaps[i];
-        let at = wide(l.month);
+        let at = wide(s.leaps[i].month);
         faults += misfit(last, at);
         last = at;
-        up += adds(l, month);
-        down += takes(l, month);
-        upnext += adds(l, next);
-        downnext += takes(l, next);
         i += 1;
     }
     faults += misfit(last, expiry);
@@ -134,12 +148,55 @@ pub(crate) fn look(s: Schedule, month: u16, next: u16) -> Survey
         faults += used(l);
         i += 1;
     }
-    let well = faults == 0;
-    Survey {
-        well,
-        up,
-        down,
-        upnext,
-        downnext,
+    faults == 0
+}
+
+// How many leaps of a well-formed schedule lie at a month or before it. The last ones are looked at first, since most days asked about are
+// late.
+fn leaps_by(s: Schedule, month: u16) -> usize
+    requires { ⌜ wellFormed s ≡ true ⌝ }
+    ensures { λ r. ⌜ ByMonth (leapsOf s) month r ⌝ }
+{
+    let mut n = s.count;
+    while 0 < n {
+        let before = n - 1;
+        if s.leaps[before].month <= month {
+            return n;
+        }
+        n = before;
     }
+    n
+}
+
+// How many of the first n leaps are negative.
+fn lowered(s: Schedule, n: usize) -> u32
+    requires { ⌜ (n ≤ length (leapsOf s)) × (n ≤ maxLeaps) ⌝ }
+    ensures { λ r. ⌜ Lowered (leapsOf s) n r ⌝ }
+{
+    let mut down: u32 = 0;
+    let mut i: usize = 0;
+    while i < n {
+        let l = s.leaps[i];
+        let sign = l.sign;
+        down += wide(takes(sign));
+        i += 1;
+    }
+    down
+}
+
+// The look at a schedule for a day of a month.
+pub(crate) fn look(s: Schedule, month: u16, day: u64) -> Survey
+    ensures { λ r. ⌜ Surveyed s month day r ⌝ }
+{
+    if !is_list(s) {
+        return malformed();
+    }
+    let n = leaps_by(s, month);
+    let down = lowered(s, n);
+    if n < s.count {
+        let l = s.leaps[n];
+        let sign = l.sign;
+        return survey_by(n, down, l.month, sign, day);
+    }
+    survey_by(n, down, 0, Sign::Positive, day)
 }

@@ -22,7 +22,7 @@ use crate::answers::utc_number;
 use crate::answers::uts_number;
 use crate::answers::uts_value;
 use crate::days::day_before;
-use crate::inplace::look_at;
+use crate::inplace::is_list;
 use crate::questions::NANOS_CUTOFF;
 use crate::questions::UTS_CUTOFF;
 use crate::questions::dtai_on;
@@ -52,14 +52,6 @@ fn shorter(a: usize, b: usize) -> usize
         return a;
     }
     b
-}
-
-// Whether words stand for a well-formed schedule.
-fn is_list(words: &[u32; 514]) -> bool
-    ensures { λ r. ⌜ r ≡ wellFormed (meant (now (words .entry))) ⌝ }
-{
-    let v = look_at(words, 0, 0);
-    v.well
 }
 
 // UTC to TAI.

@@ -13,6 +13,7 @@ ghost use Rattle.clock.specs.Days.{count};
 ghost use Rattle.clock.specs.Inner.{SurveyedOn, DayFor, Stretch, Starts, Tallies, Fenced, Guesses, Prepared};
 use crate::days::Day;
 use crate::days::day_by;
+use crate::inplace::leaps_in;
 use crate::look::Survey;
 use crate::questions::smaller;
 use schedule::Sign;
@@ -25,15 +26,6 @@ const SPAN: u64 = 128;
 
 // The first day of 1972 lies in span 322, the last day of the calendar in span 893.
 const FIRST_SPAN: usize = 322;
-
-// How many leaps a well-formed list has.
-fn leaps_in(words: &[u32; 514]) -> usize
-    requires { ⌜ wellFormed (meant (now words)) ≡ true ⌝ }
-    ensures { λ r. ⌜ (r ≡ meant (now (words .entry)) .count) × (r ≤ 256) ⌝ }
-{
-    let count = words[512];
-    count as usize
-}
 
 // The day on which each leap takes effect, from place 1 on; day 0 before them, and FAR after them.
 pub(crate) fn starts_of(words: &[u32; 514], well: bool) -> [u64; 258]

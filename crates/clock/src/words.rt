@@ -13,7 +13,12 @@ use crate::UtsAnswer;
 use crate::UtsNanos;
 use crate::days::day_before;
 use crate::days::day_in;
+use crate::inplace::is_list;
+use crate::questions::NANOS_CUTOFF;
+use crate::questions::UTS_CUTOFF;
 use crate::questions::dtai_on;
+use crate::questions::early_micros;
+use crate::questions::early_uts;
 use crate::questions::micros_on;
 use crate::questions::near_day;
 use crate::questions::tai_on;
@@ -50,6 +55,9 @@ pub fn utc_to_uts(words: &[u32; 514], day: u64, t: UtcMicros) -> UtsAnswer
     ensures { λ r. ⌜ r ≡ utsAnswer (utcToUts (meant (now (words .entry))) day (t .0)) ⌝ }
 {
     let last = day_before(words[513]);
+    if t.0 < UTS_CUTOFF {
+        return early_uts(is_list(words), last, day, t.0);
+    }
     uts_on(day_in(words, last, day), day, t.0)
 }
 
@@ -58,5 +66,8 @@ pub fn uts_to_utc(words: &[u32; 514], day: u64, u: UtsNanos) -> MicrosAnswer
     ensures { λ r. ⌜ r ≡ microsAnswer (utsToUtc (meant (now (words .entry))) day (u .0)) ⌝ }
 {
     let last = day_before(words[513]);
+    if u.0 < NANOS_CUTOFF {
+        return early_micros(is_list(words), last, day, u.0);
+    }
     micros_on(day_in(words, last, day), day, u.0)
 }

@@ -4,7 +4,7 @@ use Prim.Native.Nat.{_+_, _/_, _≤_, _<_}
 use native.Mathlib.Omega.{arith}
 use borrow.Author.Needs.{needs}
 use Rattle.calendar.specs.Calendar.{endDay}
-use Rattle.clock.proofs.Placed.{surveyed-in, day-for-near}
+use Rattle.clock.proofs.Stretched.{surveyed-in, day-for-near}
 use Rattle.clock.proofs.stretches.found.Statement.{statement}
 use Rattle.clock.proofs.stretches.found.Tie as tie
 

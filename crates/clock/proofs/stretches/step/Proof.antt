@@ -1,7 +1,7 @@
 -- `clock::stretches::step` meets its contract. Assumes nothing.
 use native.Mathlib.Omega.{arith}
 use borrow.Author.Needs.{needs}
-use Rattle.clock.proofs.Placed.{walk-room}
+use Rattle.clock.proofs.Stretched.{walk-room}
 use Rattle.clock.proofs.stretches.step.Statement.{statement}
 use Rattle.clock.proofs.stretches.step.Tie as tie
 

@@ -3,7 +3,7 @@ use Prim.Native.Nat.{_-_, _≤_}
 use native.Mathlib.Omega.{arith}
 use borrow.Author.Needs.{needs}
 use lib.ListN.{getD}
-use Rattle.clock.proofs.Placed.{walk-room}
+use Rattle.clock.proofs.Stretched.{walk-room}
 use Rattle.clock.proofs.stretches.walk.Statement.{statement}
 use Rattle.clock.proofs.stretches.walk.Tie as tie
 

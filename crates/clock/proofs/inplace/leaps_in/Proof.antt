@@ -1,9 +1,9 @@
--- `clock::stretches::leaps_in` meets its contract. Assumes nothing.
+-- `clock::inplace::leaps_in` meets its contract. Assumes nothing.
 use mathlib.Core.Path.{sym}
 use borrow.Author.Needs.{needs}
 use Rattle.clock.proofs.LaidOut.{count-meant, count-room}
-use Rattle.clock.proofs.stretches.leaps_in.Statement.{statement}
-use Rattle.clock.proofs.stretches.leaps_in.Tie as tie
+use Rattle.clock.proofs.inplace.leaps_in.Statement.{statement}
+use Rattle.clock.proofs.inplace.leaps_in.Tie as tie
 
 cast-result : tie.Need-cast-result
 cast-result c =

@@ -1,0 +1,92 @@
+-- `clock::inplace::leaps_fit` meets its contract: the loop keeps what the first one of `look` keeps, for the schedule that the words lay out,
+-- and the faults of the sign words.
+-- Assumes nothing.
+use Prim.Native.Nat.{_-_}
+use native.Mathlib.Omega.{arith}
+use borrow.Author.Needs.{needs}
+use Rattle.clock.proofs.LaidOut.{GappedAt, gapped-at-none, gapped-at-one, gapped-at-all}
+use Rattle.clock.proofs.inplace.leaps_fit.Statement.{statement}
+use Rattle.clock.proofs.inplace.leaps_fit.Tie as tie
+
+abbrev Inv-loop : tie.InvT-loop
+Inv-loop words count signs₀ faults₀ last₀ i₀ signs faults last i = GappedAt words signs faults last i
+
+abbrev μ-loop : tie.MeasureT-loop
+μ-loop words count signs₀ faults₀ last₀ i₀ signs faults last i = count - i
+
+loop-again : tie.Need-loop-again Inv-loop μ-loop
+loop-again c =
+    let args = c .before .before .before .before .before .before .before .args in
+    let pre = c .before .before .before .before .before .before .before .pre in
+    let loop = c .before .before .before .before .before .loop in
+    let unsigned = c .before .unsigned in
+    let misfit = c .misfit in
+    let loop-test = c .before .before .before .before .loop-test in
+    gapped-at-one (args .words .now) (pre) (loop .signs) (loop .faults) (loop .last) (loop .i) (loop .inv) (unsigned .result) (misfit .result)
+    (loop-test .taken) (unsigned .ensures) (misfit .ensures)
+
+add-signs : tie.Need-add-signs Inv-loop μ-loop
+add-signs c =
+    let loop = c .before .before .before .before .loop in
+    let unsigned = c .unsigned in
+    let pre = c .before .before .before .before .before .before .pre in
+    omega (arith, loop .inv .few, loop .inv .gapped .place, unsigned .ensures .1, pre)
+
+add-faults : tie.Need-add-faults Inv-loop μ-loop
+add-faults c =
+    let loop = c .before .before .before .before .before .loop in
+    let misfit = c .misfit in
+    let pre = c .before .before .before .before .before .before .before .pre in
+    omega (arith, loop .inv .gapped .few, loop .inv .gapped .place, misfit .ensures .1, pre)
+
+add-faults-2 : tie.Need-add-faults-2 Inv-loop μ-loop
+add-faults-2 c =
+    let loop = c .before .before .before .loop in
+    let misfit2 = c .misfit2 in
+    let pre = c .before .before .before .before .before .pre in
+    omega (arith, loop .inv .gapped .few, loop .inv .gapped .place, misfit2 .ensures .1, pre)
+
+add-result : tie.Need-add-result Inv-loop μ-loop
+add-result c =
+    let loop = c .before .before .before .loop in
+    let misfit2 = c .misfit2 in
+    let pre = c .before .before .before .before .before .pre in
+    omega (arith, loop .inv .few, loop .inv .gapped .few, loop .inv .gapped .place, misfit2 .ensures .1, pre)
+
+returns : tie.Need-returns Inv-loop μ-loop
+returns c =
+    let args = c .before .before .before .before .before .args in
+    let pre = c .before .before .before .before .before .pre in
+    let loop = c .before .before .before .loop in
+    let loop-test = c .before .before .loop-test in
+    let misfit2 = c .misfit2 in
+    gapped-at-all (args .words .now) (pre) (loop .signs) (loop .faults) (loop .last) (loop .i) (loop .inv) (loop-test .left) (misfit2 .result) (misfit2 .ensures .0)
+
+pub leaps-fit-spec : {M : Type 1} → statement M
+leaps-fit-spec =
+    tie.close
+    (tie.spec
+    Inv-loop
+    μ-loop
+    (λ c. search needs)
+    (λ c. gapped-at-none (c .before .args .words .now))
+    (λ c. search needs)
+    (λ c. omega arith)
+    (λ c. omega arith)
+    (λ c. search needs)
+    (λ c. omega arith)
+    (λ c. omega arith)
+    (λ c. omega arith)
+    (λ c. search needs)
+    (λ c κs. search needs)
+    add-signs
+    (λ c κs. search needs)
+    add-faults
+    (λ c. omega arith)
+    (λ c. omega arith)
+    loop-again
+    (λ c. search needs)
+    (λ c κs. search needs)
+    add-faults-2
+    add-result
+    returns)
