@@ -1,6 +1,6 @@
 -- What the loops keep that prepare a list for many questions.
 -- Assumes nothing.
-use mathlib.Core.Bool.{Bool, true}
+use mathlib.Core.Bool.{true}
 use mathlib.Core.List.{List}
 use mathlib.Core.Logic.{⊎-elim}
 use mathlib.Core.Path.{_≡_, refl, sym, ap, _∙_}
@@ -68,13 +68,7 @@ starting-one {s} {starts} {i} p room h v e =
 pub starting-all : {s : Schedule} {starts : List ℕ} {i : ℕ} → Starting s starts i → s .count ≤ i → s .count ≤ 256 → Fenced starts × Starts s starts
 starting-all {s} {starts} {i} p h room = (
   record { first = p .zeroth; end = p .beyond 256 (omega (arith, p .place)) (omega arith) },
-  record { leaps = λ w k l. p .leaps k (omega arith); beyond = λ w k l r. p .beyond k (omega (arith, p .place)) r },
-)
-
-pub starting-not : (s : Schedule) → (wellFormed s ≡ true → ⊥) → Fenced noStarts × Starts s noStarts
-starting-not s bad = (
-  record { first = starting-none s .zeroth; end = no-start 256 (omega arith) },
-  record { leaps = λ w. absurd (bad w); beyond = λ w. absurd (bad w) },
+  record { leaps = λ k l. p .leaps k (omega arith); beyond = λ k l r. p .beyond k (omega (arith, p .place)) r },
 )
 
 -- ---- how many of the first i leaps have a sign
@@ -112,10 +106,7 @@ tallying-one {s} {sign} {tallies} {n} {i} p full room h r e =
     }
 
 pub tallying-all : {s : Schedule} {sign : Sign} {tallies : List ℕ} {n i : ℕ} → Tallying s sign tallies n i → s .count ≤ i → Tallies s sign tallies
-tallying-all p h = record { of-first = λ w k l. p .firsts k (omega arith) }
-
-pub tallying-not : (s : Schedule) (sign : Sign) (tallies : List ℕ) → (wellFormed s ≡ true → ⊥) → Tallies s sign tallies
-tallying-not s sign tallies bad = record { of-first = λ w. absurd (bad w) }
+tallying-all p h = record { of-first = λ k l. p .firsts k (omega arith) }
 
 -- ---- where to start looking
 
@@ -155,18 +146,11 @@ guesses-one {starts} {guesses} p i at r b =
     }
 
 -- ---- the list, prepared
-module _ (words : List ℕ) {well : Bool} {last : ℕ} {starts ups downs guesses : List ℕ} (w : well ≡ wellFormed (meant words))
+module _ (words : List ℕ) {last : ℕ} {starts ups downs guesses : List ℕ} (w : wellFormed (meant words) ≡ true)
     (l : (expiryWord words ≤ lastMonth → last ≡ monthStart (expiryWord words) - 1) × (last < endDay)) (f : Fenced starts × Starts (meant words) starts)
     (u : Tallies (meant words) Positive ups) (d : Tallies (meant words) Negative downs) (g : Guesses starts guesses) where
-  pub prepared-list : Prepared (meant words) well last starts ups downs
-  prepared-list =
-      record {
-        list = record { is-well = w; is-last = λ e. last-meant words e last (l .0) };
-        full = λ e. full-meant words e;
-        starting = f .1;
-        raised = u;
-        lowered = d;
-      }
+  pub prepared-list : Prepared (meant words) last starts ups downs
+  prepared-list = record { well = w; is-last = last-meant words w last (l .0); full = full-meant words w; starting = f .1; raised = u; lowered = d }
 
-  pub ready-list : Ready well last starts ups downs guesses
+  pub ready-list : Ready last starts ups downs guesses
   ready-list = record { fenced = f .0; guessed = g; inside = l .1; of = meant words; prepared = prepared-list }

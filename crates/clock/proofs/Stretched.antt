@@ -1,6 +1,6 @@
 -- The stretch of a prepared list that a day lies in tells the tallies of the day and of the next.
 -- Assumes nothing.
-use mathlib.Core.Bool.{Bool, true}
+use mathlib.Core.Bool.{true}
 use mathlib.Core.List.{List}
 use mathlib.Core.Logic.{⊎-elim}
 use mathlib.Core.Path.{_≡_, sym, _∙_}
@@ -37,7 +37,7 @@ module _ (s : Schedule) (w : wellFormed s ≡ true) (full : length (leapsOf s) �
       go (suc n) b r =
           elim (decLt n (s .count)) [
             | yes l ↦ l
-            | no l ↦ absurd (omega (arith, rw (← add-one n) at b, p .beyond w n (omega arith) (omega arith)))
+            | no l ↦ absurd (omega (arith, rw (← add-one n) at b, p .beyond n (omega arith) (omega arith)))
           ]
 
   -- a stretch begins when its last leap takes effect, and the leaps before that one are in effect already
@@ -47,7 +47,7 @@ module _ (s : Schedule) (w : wellFormed s ≡ true) (full : length (leapsOf s) �
       go : (n : ℕ) → getD starts n 0 ≤ day → n ≤ s .count → i < n → monthStart (leapMonth (leapsOf s) i) ≤ day
       go zero b r h = absurd (not-suc-le-zero h)
       go (suc m) b r h =
-          let own : monthStart (leapMonth (leapsOf s) m) ≤ day = omega (arith, p .leaps w m r, rw (← add-one m) at b) in
+          let own : monthStart (leapMonth (leapsOf s) m) ≤ day = omega (arith, p .leaps m r, rw (← add-one m) at b) in
           ⊎-elim (λ (e : i ≡ m). rw e own)
           (λ (l : i < m). omega (arith, start-lt (in-order (leapsOf s) 0 (s .expiry) (parts s w .gaps) i m l (omega arith))))
           (eq-or-lt-of-le (le-of-suc-le-suc h))
@@ -55,23 +55,23 @@ module _ (s : Schedule) (w : wellFormed s ≡ true) (full : length (leapsOf s) �
   placed : Stretch starts day n → Placed (leapsOf s) day n
   placed q =
       let r = in-leaps (q .begun) (q .room) in
-      record { room = omega arith; begun = leaps-begun (q .begun) r; not-begun = λ h. omega (arith, q .not-over, p .leaps w n (omega arith)) }
+      record { room = omega arith; begun = leaps-begun (q .begun) r; not-begun = λ h. omega (arith, q .not-over, p .leaps n (omega arith)) }
 
   -- the next day lies in the same stretch, or a leap takes effect on it
   stays : Stretch starts day n → (getD starts (n + 1) 0 ≡ day + 1 → ⊥) → Placed (leapsOf s) (day + 1) n
-  stays q ne = placed-same (placed q) (λ h e. ne (p .leaps w n (omega arith) ∙ e))
+  stays q ne = placed-same (placed q) (λ h e. ne (p .leaps n (omega arith) ∙ e))
 
   starts-next : Stretch starts day n → getD starts (n + 1) 0 ≡ day + 1 → n < s .count
   starts-next q e =
       elim (decLt n (s .count)) [
         | yes l ↦ l
-        | no l ↦ absurd (omega (arith, p .beyond w n (omega arith) (q .room)))
+        | no l ↦ absurd (omega (arith, p .beyond n (omega arith) (q .room)))
       ]
 
   steps : Stretch starts day n → getD starts (n + 1) 0 ≡ day + 1 → Placed (leapsOf s) (day + 1) (n + 1)
   steps q e =
       let r = starts-next q e in
-      placed-next (s .expiry) (parts s w .gaps) (placed q) (omega arith) (sym (p .leaps w n r) ∙ e)
+      placed-next (s .expiry) (parts s w .gaps) (placed q) (omega arith) (sym (p .leaps n r) ∙ e)
 
   placed-after : Stretch starts day n → (m : ℕ) → (getD starts (n + 1) 0 ≡ day + 1 → m ≡ n + 1) → ((getD starts (n + 1) 0 ≡ day + 1 → ⊥) → m ≡ n) → Placed (leapsOf s) (day + 1) m
   placed-after q m step stay =
@@ -88,26 +88,30 @@ module _ (s : Schedule) (w : wellFormed s ≡ true) (full : length (leapsOf s) �
       let next = placed-after q m step stay in
       let i : n ≤ s .count = omega (arith, here .room) in
       let j : m ≤ s .count = omega (arith, next .room) in
-      tallied-by s w here next v (eu ∙ r .of-first w n i) (ed ∙ l .of-first w n i) (fu ∙ r .of-first w m j) (fd ∙ l .of-first w m j)
+      tallied-by s w here next v (eu ∙ r .of-first n i) (ed ∙ l .of-first n i) (fu ∙ r .of-first m j) (fd ∙ l .of-first m j)
 
-pub surveyed-in : {s : Schedule} {well : Bool} {last : ℕ} {starts ups downs : List ℕ} → Prepared s well last starts ups downs → (day n m : ℕ) → day < endDay → Stretch starts day n
+pub surveyed-in : {s : Schedule} {last : ℕ} {starts ups downs : List ℕ} → Prepared s last starts ups downs → (day n m : ℕ) → day < endDay → Stretch starts day n
     → (getD starts (n + 1) 0 ≡ day + 1 → m ≡ n + 1) → ((getD starts (n + 1) 0 ≡ day + 1 → ⊥) → m ≡ n)
-    → (v : Survey) → v .well ≡ well → v .up ≡ getD ups n 0 → v .down ≡ getD downs n 0 → v .upnext ≡ getD ups m 0 → v .downnext ≡ getD downs m 0
+    → (v : Survey) → v .well ≡ true → v .up ≡ getD ups n 0 → v .down ≡ getD downs n 0 → v .upnext ≡ getD ups m 0 → v .downnext ≡ getD downs m 0
     → SurveyedOn s day v
 surveyed-in {s} {starts = starts} {ups} {downs} p day n m d q step stay v ew eu ed fu fd =
     record {
-      well = ew ∙ p .list .is-well;
-      tallied = λ w f l. tallied-in s w (p .full w) starts (p .starting) day n d q m step stay ups downs (p .raised) (p .lowered) v eu ed fu fd;
+      well = ew ∙ sym (p .well);
+      tallied = λ w f l. tallied-in s w (p .full) starts (p .starting) day n d q m step stay ups downs (p .raised) (p .lowered) v eu ed fu fd;
     }
 
 -- a day up to the last one is asked about as it is
-pub day-for-near : {s : Schedule} {well : Bool} {last day : ℕ} {k : Day} → ListFor s well last → DayFor s (min day last) k → DayFor s day k
+pub day-for-near : {s : Schedule} {last day : ℕ} {k : Day} → last ≡ lastDay s → DayFor s (min day last) k → DayFor s day k
 day-for-near {s} {last = last} {day} f g =
     record {
       well = g .well;
       last = g .last;
-      is = λ w p q. let e : min day last ≡ day = omega (arith, f .is-last w) in rw e at (g .is w (omega arith) (omega arith));
+      is = λ w p q. let e : min day last ≡ day = omega (arith, f) in rw e at (g .is w (omega arith) (omega arith));
     }
+
+-- a prepared list as one whose last day is known
+pub list-in : {s : Schedule} {last : ℕ} {starts ups downs : List ℕ} → Prepared s last starts ups downs → ListFor s true last
+list-in p = record { is-well = sym (p .well); is-last = λ w. p .is-last }
 
 -- ---- while the list is prepared
 

@@ -21,6 +21,7 @@ use Rattle.clock.specs.declared.days.Day.{Day}
 use Rattle.clock.specs.Days.{microsPerDay, count, tally, ending}
 use Rattle.clock.specs.Known.{lastDay, taiCutoff, knownTo}
 use Rattle.clock.specs.Question.{Answer, given, refused, require, Utc}
+use Rattle.clock.specs.Many.{HandsMany, HandsManyUtc}
 use Rattle.refusals.specs.Refusals.{notKnown}
 
 -- how many of the leaps have the sign
@@ -114,19 +115,19 @@ onDay day t last = require (knownTo last taiCutoff day t) notKnown (given (recor
 abbrev pub far : ℕ
 far = 4_294_967_295
 
--- the days on which the leaps of a well-formed schedule take effect stand from place 1 on, and after them `far`
+-- the days on which the leaps take effect stand from place 1 on, and after them `far`
 pub record Starts (s : Schedule) (starts : List ℕ) : Type 0 where
-  pub leaps : wellFormed s ≡ true → (i : ℕ) → i < s .count → getD starts (i + 1) 0 ≡ monthStart (getD (leapsOf s) i noLeap .month)
-  pub beyond : wellFormed s ≡ true → (i : ℕ) → s .count ≤ i → i ≤ 256 → getD starts (i + 1) 0 ≡ far
+  pub leaps : (i : ℕ) → i < s .count → getD starts (i + 1) 0 ≡ monthStart (getD (leapsOf s) i noLeap .month)
+  pub beyond : (i : ℕ) → s .count ≤ i → i ≤ 256 → getD starts (i + 1) 0 ≡ far
 
 -- any search in them ends: the first is day 0, the last `far`
 pub record Fenced (starts : List ℕ) : Type 0 where
   pub first : getD starts 0 0 ≡ 0
   pub end : getD starts 257 0 ≡ far
 
--- how many of the first leaps of a well-formed schedule have the sign, for each number of them
+-- how many of the first leaps have the sign, for each number of them
 pub record Tallies (s : Schedule) (sign : Sign) (tallies : List ℕ) : Type 0 where
-  pub of-first : wellFormed s ≡ true → (i : ℕ) → i ≤ s .count → getD tallies i 0 ≡ ofSign sign (take i (leapsOf s))
+  pub of-first : (i : ℕ) → i ≤ s .count → getD tallies i 0 ≡ ofSign sign (take i (leapsOf s))
 
 -- a day lies in the stretch at a place: it is not before its start, and before the next one's
 pub record Stretch (starts : List ℕ) (day at : ℕ) : Type 0 where
@@ -139,18 +140,26 @@ pub record Guesses (starts guesses : List ℕ) : Type 0 where
   pub room : (i : ℕ) → getD guesses i 0 ≤ 256
   pub begun : (i : ℕ) → getD starts (getD guesses i 0) 0 ≤ 128 * i
 
--- a schedule, prepared
-pub record Prepared (s : Schedule) (well : Bool) (last : ℕ) (starts ups downs : List ℕ) : Type 0 where
-  pub list : ListFor s well last
-  pub full : wellFormed s ≡ true → length (leapsOf s) ≡ s .count
+-- a well-formed schedule, prepared
+pub record Prepared (s : Schedule) (last : ℕ) (starts ups downs : List ℕ) : Type 0 where
+  pub well : wellFormed s ≡ true
+  pub is-last : last ≡ lastDay s
+  pub full : length (leapsOf s) ≡ s .count
   pub starting : Starts s starts
   pub raised : Tallies s Positive ups
   pub lowered : Tallies s Negative downs
 
 -- a list prepared for some schedule, in which any search ends
-pub record Ready (well : Bool) (last : ℕ) (starts ups downs guesses : List ℕ) : Type 0 where
+pub record Ready (last : ℕ) (starts ups downs guesses : List ℕ) : Type 0 where
   pub fenced : Fenced starts
   pub guessed : Guesses starts guesses
   pub inside : last < endDay
   pub of : Schedule
-  pub prepared : Prepared of well last starts ups downs
+  pub prepared : Prepared of last starts ups downs
+
+-- the first n questions are answered in their arrays
+abbrev pub Fills : {A : Type 0} → A → (ℕ → Answer A) → ℕ → List ℕ → List A → List ℕ → List A → Type 0
+Fills none answer n numbers values numbers′ values′ = HandsMany none answer n numbers values n numbers′ values′
+
+abbrev pub FillsUtc : (ℕ → Answer Utc) → ℕ → List ℕ → List ℕ → List ℕ → List ℕ → List ℕ → List ℕ → Type 0
+FillsUtc answer n numbers days micros numbers′ days′ micros′ = HandsManyUtc answer n numbers days micros n numbers′ days′ micros′

@@ -1,6 +1,8 @@
-// Many questions under one list as 514 words: the list is prepared once, and then each instant is answered as a single question would be.
+// Many questions under one list as 514 words: the list is checked and prepared once, and then each instant is answered as a single question
+// would be.
 ghost use mathlib.Core.Path.{_≡_};
-ghost use Prim.Native.Nat.{min};
+ghost use mathlib.Core.Bool.{true};
+ghost use Prim.Native.Nat.{_≤_, min};
 ghost use lib.IntN.{pos};
 ghost use lib.ListN.{length};
 ghost use Rattle.schedule.specs.declared.Schedule.{Schedule};
@@ -8,8 +10,9 @@ ghost use Rattle.schedule.specs.Schedule.{wellFormed};
 ghost use Rattle.schedule.specs.WordLayout.{meant};
 ghost use Rattle.clock.specs.Question.{dtaiOn, utcToTai, taiToUtc, utcToUts, utsToUtc};
 ghost use Rattle.clock.specs.Answers.{HandsValue, HandsUtc};
-ghost use Rattle.clock.specs.Many.{answerAt, answersAt, HandsMany, HandsManyUtc};
-ghost use Rattle.clock.specs.Inner.{Prepared, Ready};
+ghost use Rattle.refusals.specs.Refusals.{notWellFormed};
+ghost use Rattle.clock.specs.Many.{filled, answerAt, answersAt, HandsMany, HandsManyUtc};
+ghost use Rattle.clock.specs.Inner.{Prepared, Ready, Fills, FillsUtc};
 use crate::answers::dtai_number;
 use crate::answers::dtai_value;
 use crate::answers::micros_number;
@@ -37,6 +40,7 @@ use crate::stretches::found;
 use crate::stretches::guesses_of;
 use crate::stretches::starts_of;
 use crate::stretches::tallies_of;
+use refusals::NOT_WELL_FORMED;
 use schedule::Sign;
 
 // An answer's number, and its value or 0.
@@ -60,19 +64,14 @@ fn reply_tai(
     ups: &[u16; 258],
     downs: &[u16; 258],
     guesses: &[u16; 894],
-    well: bool,
     last: u64,
     day: u64,
     micros: u64,
 ) -> Reply
-    requires { ⌜ Ready well last (now starts) (now ups) (now downs) (now guesses) ⌝ }
-    ensures { λ r. ⌜ ((s : Schedule) → Prepared s well last (now (starts .entry)) (now (ups .entry)) (now (downs .entry)) → HandsValue 0 (utcToTai s day micros) (r .number) (r .value)) ⌝ }
+    requires { ⌜ Ready last (now starts) (now ups) (now downs) (now guesses) ⌝ }
+    ensures { λ r. ⌜ ((s : Schedule) → Prepared s last (now (starts .entry)) (now (ups .entry)) (now (downs .entry)) → HandsValue 0 (utcToTai s day micros) (r .number) (r .value)) ⌝ }
 {
-    let a = tai_on(
-        found(starts, ups, downs, guesses, well, last, day),
-        day,
-        micros,
-    );
+    let a = tai_on(found(starts, ups, downs, guesses, last, day), day, micros);
     Reply {
         number: tai_number(a),
         value: tai_value(a),
@@ -85,26 +84,21 @@ fn reply_uts(
     ups: &[u16; 258],
     downs: &[u16; 258],
     guesses: &[u16; 894],
-    well: bool,
     last: u64,
     day: u64,
     micros: u64,
 ) -> Reply
-    requires { ⌜ Ready well last (now starts) (now ups) (now downs) (now guesses) ⌝ }
-    ensures { λ r. ⌜ ((s : Schedule) → Prepared s well last (now (starts .entry)) (now (ups .entry)) (now (downs .entry)) → HandsValue 0 (utcToUts s day micros) (r .number) (r .value)) ⌝ }
+    requires { ⌜ Ready last (now starts) (now ups) (now downs) (now guesses) ⌝ }
+    ensures { λ r. ⌜ ((s : Schedule) → Prepared s last (now (starts .entry)) (now (ups .entry)) (now (downs .entry)) → HandsValue 0 (utcToUts s day micros) (r .number) (r .value)) ⌝ }
 {
     if micros < UTS_CUTOFF {
-        let a = early_uts(well, last, day, micros);
+        let a = early_uts(true, last, day, micros);
         return Reply {
             number: uts_number(a),
             value: uts_value(a),
         };
     }
-    let a = uts_on(
-        found(starts, ups, downs, guesses, well, last, day),
-        day,
-        micros,
-    );
+    let a = uts_on(found(starts, ups, downs, guesses, last, day), day, micros);
     Reply {
         number: uts_number(a),
         value: uts_value(a),
@@ -117,29 +111,187 @@ fn reply_micros(
     ups: &[u16; 258],
     downs: &[u16; 258],
     guesses: &[u16; 894],
-    well: bool,
     last: u64,
     day: u64,
     nanos: u64,
 ) -> Reply
-    requires { ⌜ Ready well last (now starts) (now ups) (now downs) (now guesses) ⌝ }
-    ensures { λ r. ⌜ ((s : Schedule) → Prepared s well last (now (starts .entry)) (now (ups .entry)) (now (downs .entry)) → HandsValue 0 (utsToUtc s day nanos) (r .number) (r .value)) ⌝ }
+    requires { ⌜ Ready last (now starts) (now ups) (now downs) (now guesses) ⌝ }
+    ensures { λ r. ⌜ ((s : Schedule) → Prepared s last (now (starts .entry)) (now (ups .entry)) (now (downs .entry)) → HandsValue 0 (utsToUtc s day nanos) (r .number) (r .value)) ⌝ }
 {
     if nanos < NANOS_CUTOFF {
-        let a = early_micros(well, last, day, nanos);
+        let a = early_micros(true, last, day, nanos);
         return Reply {
             number: micros_number(a),
             value: micros_value(a),
         };
     }
-    let a = micros_on(
-        found(starts, ups, downs, guesses, well, last, day),
-        day,
-        nanos,
-    );
+    let a = micros_on(found(starts, ups, downs, guesses, last, day), day, nanos);
     Reply {
         number: micros_number(a),
         value: micros_value(a),
+    }
+}
+
+// The first n numbers, of a list that is not well formed.
+fn refuse(numbers: &mut [u8], n: usize)
+    requires { ⌜ n ≤ length (now numbers) ⌝ }
+    ensures { λ _. ⌜ now (numbers .exit) ≡ filled (λ i. notWellFormed) n (now (numbers .entry)) ⌝ }
+{
+    let mut i: usize = 0;
+    while i < n {
+        numbers[i] = NOT_WELL_FORMED;
+        i += 1;
+    }
+}
+
+// The first n values, all refused.
+fn clear(values: &mut [u64], n: usize)
+    requires { ⌜ n ≤ length (now values) ⌝ }
+    ensures { λ _. ⌜ now (values .exit) ≡ filled (λ i. 0) n (now (values .entry)) ⌝ }
+{
+    let mut i: usize = 0;
+    while i < n {
+        values[i] = 0;
+        i += 1;
+    }
+}
+
+// The same for values of DTAI.
+fn clear_dtai(values: &mut [i32], n: usize)
+    requires { ⌜ n ≤ length (now values) ⌝ }
+    ensures { λ _. ⌜ now (values .exit) ≡ filled (λ i. pos 0) n (now (values .entry)) ⌝ }
+{
+    let mut i: usize = 0;
+    while i < n {
+        values[i] = 0;
+        i += 1;
+    }
+}
+
+// DTAI for each of the first n dates, under a well-formed list.
+fn answer_dtai(words: &[u32; 514], days: &[u64], numbers: &mut [u8], dtais: &mut [i32], n: usize)
+    requires { ⌜ (wellFormed (meant (now words)) ≡ true) × (n ≤ length (now days)) × (n ≤ length (now numbers)) × (n ≤ length (now dtais)) ⌝ }
+    ensures { λ _. ⌜ Fills (pos 0) (answerAt (dtaiOn (meant (now (words .entry)))) (now (days .entry))) n (now (numbers .entry)) (now (dtais .entry)) (now (numbers .exit)) (now (dtais .exit)) ⌝ }
+{
+    let last = day_before(words[513]);
+    let starts = starts_of(words);
+    let ups = tallies_of(words, Sign::Positive);
+    let downs = tallies_of(words, Sign::Negative);
+    let guesses = guesses_of(&starts, last);
+    let mut i: usize = 0;
+    while i < n {
+        let day = days[i];
+        let a = dtai_on(found(&starts, &ups, &downs, &guesses, last, day), day);
+        numbers[i] = dtai_number(a);
+        dtais[i] = dtai_value(a);
+        i += 1;
+    }
+}
+
+// UTC to TAI for each of the first n instants, under a well-formed list.
+fn answer_tai(
+    words: &[u32; 514],
+    days: &[u64],
+    micros: &[u64],
+    numbers: &mut [u8],
+    tais: &mut [u64],
+    n: usize,
+)
+    requires { ⌜ (wellFormed (meant (now words)) ≡ true) × (n ≤ length (now days)) × (n ≤ length (now micros)) × (n ≤ length (now numbers)) × (n ≤ length (now tais)) ⌝ }
+    ensures { λ _. ⌜ Fills 0 (answersAt (utcToTai (meant (now (words .entry)))) (now (days .entry)) (now (micros .entry))) n (now (numbers .entry)) (now (tais .entry)) (now (numbers .exit)) (now (tais .exit)) ⌝ }
+{
+    let last = day_before(words[513]);
+    let starts = starts_of(words);
+    let ups = tallies_of(words, Sign::Positive);
+    let downs = tallies_of(words, Sign::Negative);
+    let guesses = guesses_of(&starts, last);
+    let mut i: usize = 0;
+    while i < n {
+        let r = reply_tai(&starts, &ups, &downs, &guesses, last, days[i], micros[i]);
+        numbers[i] = r.number;
+        tais[i] = r.value;
+        i += 1;
+    }
+}
+
+// UTC to smoothed time for each of the first n instants, under a well-formed list.
+fn answer_uts(
+    words: &[u32; 514],
+    days: &[u64],
+    micros: &[u64],
+    numbers: &mut [u8],
+    nanos: &mut [u64],
+    n: usize,
+)
+    requires { ⌜ (wellFormed (meant (now words)) ≡ true) × (n ≤ length (now days)) × (n ≤ length (now micros)) × (n ≤ length (now numbers)) × (n ≤ length (now nanos)) ⌝ }
+    ensures { λ _. ⌜ Fills 0 (answersAt (utcToUts (meant (now (words .entry)))) (now (days .entry)) (now (micros .entry))) n (now (numbers .entry)) (now (nanos .entry)) (now (numbers .exit)) (now (nanos .exit)) ⌝ }
+{
+    let last = day_before(words[513]);
+    let starts = starts_of(words);
+    let ups = tallies_of(words, Sign::Positive);
+    let downs = tallies_of(words, Sign::Negative);
+    let guesses = guesses_of(&starts, last);
+    let mut i: usize = 0;
+    while i < n {
+        let r = reply_uts(&starts, &ups, &downs, &guesses, last, days[i], micros[i]);
+        numbers[i] = r.number;
+        nanos[i] = r.value;
+        i += 1;
+    }
+}
+
+// Smoothed time to UTC for each of the first n instants, under a well-formed list.
+fn answer_micros(
+    words: &[u32; 514],
+    days: &[u64],
+    nanos: &[u64],
+    numbers: &mut [u8],
+    micros: &mut [u64],
+    n: usize,
+)
+    requires { ⌜ (wellFormed (meant (now words)) ≡ true) × (n ≤ length (now days)) × (n ≤ length (now nanos)) × (n ≤ length (now numbers)) × (n ≤ length (now micros)) ⌝ }
+    ensures { λ _. ⌜ Fills 0 (answersAt (utsToUtc (meant (now (words .entry)))) (now (days .entry)) (now (nanos .entry))) n (now (numbers .entry)) (now (micros .entry)) (now (numbers .exit)) (now (micros .exit)) ⌝ }
+{
+    let last = day_before(words[513]);
+    let starts = starts_of(words);
+    let ups = tallies_of(words, Sign::Positive);
+    let downs = tallies_of(words, Sign::Negative);
+    let guesses = guesses_of(&starts, last);
+    let mut i: usize = 0;
+    while i < n {
+        let r = reply_micros(&starts, &ups, &downs, &guesses, last, days[i], nanos[i]);
+        numbers[i] = r.number;
+        micros[i] = r.value;
+        i += 1;
+    }
+}
+
+// TAI to UTC for each of the first n TAI, under a well-formed list.
+fn answer_utc(
+    words: &[u32; 514],
+    tais: &[u64],
+    numbers: &mut [u8],
+    days: &mut [u64],
+    micros: &mut [u64],
+    n: usize,
+)
+    requires { ⌜ (wellFormed (meant (now words)) ≡ true) × (n ≤ length (now tais)) × (n ≤ length (now numbers)) × (n ≤ length (now days)) × (n ≤ length (now micros)) ⌝ }
+    ensures { λ _. ⌜ FillsUtc (answerAt (taiToUtc (meant (now (words .entry)))) (now (tais .entry))) n (now (numbers .entry)) (now (days .entry)) (now (micros .entry)) (now (numbers .exit)) (now (days .exit)) (now (micros .exit)) ⌝ }
+{
+    let last = day_before(words[513]);
+    let starts = starts_of(words);
+    let ups = tallies_of(words, Sign::Positive);
+    let downs = tallies_of(words, Sign::Negative);
+    let guesses = guesses_of(&starts, last);
+    let mut i: usize = 0;
+    while i < n {
+        let x = tais[i];
+        let near = near_day(x, last);
+        let a = utc_on(found(&starts, &ups, &downs, &guesses, last, near), near, x);
+        numbers[i] = utc_number(a);
+        days[i] = utc_day(a);
+        micros[i] = utc_micros(a);
+        i += 1;
     }
 }
 
@@ -148,20 +300,12 @@ pub fn dtai(words: &[u32; 514], days: &[u64], numbers: &mut [u8], dtais: &mut [i
     ensures { λ n. ⌜ HandsMany (pos 0) (answerAt (dtaiOn (meant (now (words .entry)))) (now (days .entry))) (min (length (now (days .entry))) (min (length (now (numbers .entry))) (length (now (dtais .entry))))) (now (numbers .entry)) (now (dtais .entry)) n (now (numbers .exit)) (now (dtais .exit)) ⌝ }
 {
     let n = shorter(days.len(), shorter(numbers.len(), dtais.len()));
-    let well = is_list(words);
-    let last = day_before(words[513]);
-    let starts = starts_of(words, well);
-    let ups = tallies_of(words, well, Sign::Positive);
-    let downs = tallies_of(words, well, Sign::Negative);
-    let guesses = guesses_of(&starts, last);
-    let mut i: usize = 0;
-    while i < n {
-        let day = days[i];
-        let a = dtai_on(found(&starts, &ups, &downs, &guesses, well, last, day), day);
-        numbers[i] = dtai_number(a);
-        dtais[i] = dtai_value(a);
-        i += 1;
+    if is_list(words) {
+        answer_dtai(words, days, numbers, dtais, n);
+        return n as u64;
     }
+    refuse(numbers, n);
+    clear_dtai(dtais, n);
     n as u64
 }
 
@@ -179,28 +323,12 @@ pub fn utc_to_tai(
         shorter(days.len(), micros.len()),
         shorter(numbers.len(), tais.len()),
     );
-    let well = is_list(words);
-    let last = day_before(words[513]);
-    let starts = starts_of(words, well);
-    let ups = tallies_of(words, well, Sign::Positive);
-    let downs = tallies_of(words, well, Sign::Negative);
-    let guesses = guesses_of(&starts, last);
-    let mut i: usize = 0;
-    while i < n {
-        let r = reply_tai(
-            &starts,
-            &ups,
-            &downs,
-            &guesses,
-            well,
-            last,
-            days[i],
-            micros[i],
-        );
-        numbers[i] = r.number;
-        tais[i] = r.value;
-        i += 1;
+    if is_list(words) {
+        answer_tai(words, days, micros, numbers, tais, n);
+        return n as u64;
     }
+    refuse(numbers, n);
+    clear(tais, n);
     n as u64
 }
 
@@ -218,28 +346,12 @@ pub fn utc_to_uts(
         shorter(days.len(), micros.len()),
         shorter(numbers.len(), nanos.len()),
     );
-    let well = is_list(words);
-    let last = day_before(words[513]);
-    let starts = starts_of(words, well);
-    let ups = tallies_of(words, well, Sign::Positive);
-    let downs = tallies_of(words, well, Sign::Negative);
-    let guesses = guesses_of(&starts, last);
-    let mut i: usize = 0;
-    while i < n {
-        let r = reply_uts(
-            &starts,
-            &ups,
-            &downs,
-            &guesses,
-            well,
-            last,
-            days[i],
-            micros[i],
-        );
-        numbers[i] = r.number;
-        nanos[i] = r.value;
-        i += 1;
+    if is_list(words) {
+        answer_uts(words, days, micros, numbers, nanos, n);
+        return n as u64;
     }
+    refuse(numbers, n);
+    clear(nanos, n);
     n as u64
 }
 
@@ -257,28 +369,12 @@ pub fn uts_to_utc(
         shorter(days.len(), nanos.len()),
         shorter(numbers.len(), micros.len()),
     );
-    let well = is_list(words);
-    let last = day_before(words[513]);
-    let starts = starts_of(words, well);
-    let ups = tallies_of(words, well, Sign::Positive);
-    let downs = tallies_of(words, well, Sign::Negative);
-    let guesses = guesses_of(&starts, last);
-    let mut i: usize = 0;
-    while i < n {
-        let r = reply_micros(
-            &starts,
-            &ups,
-            &downs,
-            &guesses,
-            well,
-            last,
-            days[i],
-            nanos[i],
-        );
-        numbers[i] = r.number;
-        micros[i] = r.value;
-        i += 1;
+    if is_list(words) {
+        answer_micros(words, days, nanos, numbers, micros, n);
+        return n as u64;
     }
+    refuse(numbers, n);
+    clear(micros, n);
     n as u64
 }
 
@@ -296,25 +392,12 @@ pub fn tai_to_utc(
         shorter(tais.len(), numbers.len()),
         shorter(days.len(), micros.len()),
     );
-    let well = is_list(words);
-    let last = day_before(words[513]);
-    let starts = starts_of(words, well);
-    let ups = tallies_of(words, well, Sign::Positive);
-    let downs = tallies_of(words, well, Sign::Negative);
-    let guesses = guesses_of(&starts, last);
-    let mut i: usize = 0;
-    while i < n {
-        let x = tais[i];
-        let near = near_day(x, last);
-        let a = utc_on(
-            found(&starts, &ups, &downs, &guesses, well, last, near),
-            near,
-            x,
-        );
-        numbers[i] = utc_number(a);
-        days[i] = utc_day(a);
-        micros[i] = utc_micros(a);
-        i += 1;
+    if is_list(words) {
+        answer_utc(words, tais, numbers, days, micros, n);
+        return n as u64;
     }
+    refuse(numbers, n);
+    clear(days, n);
+    clear(micros, n);
     n as u64
 }

@@ -1,4 +1,4 @@
-// A list prepared for many questions: the days on which its leaps take effect, the leaps of each sign by then, and where to start looking.
+// A well-formed list prepared for many questions: the days on which its leaps take effect, the leaps of each sign by then, and where to start looking.
 // From one such day to the next is a stretch, in which DTAI is the same.
 ghost use mathlib.Core.Path.{_≡_};
 ghost use mathlib.Core.Bool.{true};
@@ -28,15 +28,12 @@ const SPAN: u64 = 128;
 const FIRST_SPAN: usize = 322;
 
 // The day on which each leap takes effect, from place 1 on; day 0 before them, and FAR after them.
-pub(crate) fn starts_of(words: &[u32; 514], well: bool) -> [u64; 258]
-    requires { ⌜ well ≡ wellFormed (meant (now words)) ⌝ }
+pub(crate) fn starts_of(words: &[u32; 514]) -> [u64; 258]
+    requires { ⌜ wellFormed (meant (now words)) ≡ true ⌝ }
     ensures { λ r. ⌜ Fenced r × Starts (meant (now (words .entry))) r ⌝ }
 {
     let mut starts = [FAR; 258];
     starts[0] = 0;
-    if !well {
-        return starts;
-    }
     let count = leaps_in(words);
     let mut i: usize = 0;
     while i < count {
@@ -58,14 +55,11 @@ fn is_of(sign: Sign, negative: u32) -> u16
 }
 
 // How many of the first leaps have the sign, for each number of them.
-pub(crate) fn tallies_of(words: &[u32; 514], well: bool, sign: Sign) -> [u16; 258]
-    requires { ⌜ well ≡ wellFormed (meant (now words)) ⌝ }
+pub(crate) fn tallies_of(words: &[u32; 514], sign: Sign) -> [u16; 258]
+    requires { ⌜ wellFormed (meant (now words)) ≡ true ⌝ }
     ensures { λ r. ⌜ Tallies (meant (now (words .entry))) sign r ⌝ }
 {
     let mut tallies = [0u16; 258];
-    if !well {
-        return tallies;
-    }
     let count = leaps_in(words);
     let mut n: u16 = 0;
     let mut i: usize = 0;
@@ -117,18 +111,17 @@ pub(crate) fn guesses_of(starts: &[u64; 258], last: u64) -> [u16; 894]
     guesses
 }
 
-// What a prepared list says of a day. A day after the last one gets what is said of that: only `well` and `last` mean something then.
+// What a prepared list says of a day. A day after the last one gets what is said of that, and only `last` means something then.
 pub(crate) fn found(
     starts: &[u64; 258],
     ups: &[u16; 258],
     downs: &[u16; 258],
     guesses: &[u16; 894],
-    well: bool,
     last: u64,
     day: u64,
 ) -> Day
     requires { ⌜ Fenced (now starts) × Guesses (now starts) (now guesses) × (last < endDay) ⌝ }
-    ensures { λ r. ⌜ ((s : Schedule) → Prepared s well last (now (starts .entry)) (now (ups .entry)) (now (downs .entry)) → DayFor s day r) ⌝ }
+    ensures { λ r. ⌜ ((s : Schedule) → Prepared s last (now (starts .entry)) (now (ups .entry)) (now (downs .entry)) → DayFor s day r) ⌝ }
 {
     let near = smaller(day, last);
     let guess = guesses[(near / SPAN) as usize];
@@ -138,7 +131,7 @@ pub(crate) fn found(
     // Seldom a leap takes effect on the next day.
     if starts[at + 1] == near + 1 {
         let v = Survey {
-            well,
+            well: true,
             up,
             down,
             upnext: ups[at + 1],
@@ -147,7 +140,7 @@ pub(crate) fn found(
         return day_by(v, last);
     }
     let v = Survey {
-        well,
+        well: true,
         up,
         down,
         upnext: up,

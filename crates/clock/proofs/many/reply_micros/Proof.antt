@@ -1,6 +1,7 @@
 -- `clock::many::reply_micros` meets its contract. Assumes nothing.
 use borrow.Author.Needs.{needs}
 use Rattle.clock.specs.Answers.{microsAnswer, microsNumber, microsValue}
+use Rattle.clock.proofs.Stretched.{list-in}
 use Rattle.clock.proofs.Numbers.{micros-told, hands-value}
 use Rattle.clock.proofs.many.reply_micros.Statement.{statement}
 use Rattle.clock.proofs.many.reply_micros.Tie as tie
@@ -10,7 +11,7 @@ returns c s p =
     let early-micros = c .before .before .early-micros in
     let micros-number = c .before .micros-number in
     let micros-value = c .micros-value in
-    hands-value 0 microsAnswer microsNumber microsValue micros-told _ _ (early-micros .ensures s (p .list)) _ (micros-number .ensures) _ (micros-value .ensures)
+    hands-value 0 microsAnswer microsNumber microsValue micros-told _ _ (early-micros .ensures s (list-in p)) _ (micros-number .ensures) _ (micros-value .ensures)
 
 found-requires : tie.Need-found-requires
 found-requires c κs =

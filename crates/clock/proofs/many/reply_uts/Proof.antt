@@ -1,6 +1,7 @@
 -- `clock::many::reply_uts` meets its contract. Assumes nothing.
 use borrow.Author.Needs.{needs}
 use Rattle.clock.specs.Answers.{utsAnswer, utsNumber, utsValue}
+use Rattle.clock.proofs.Stretched.{list-in}
 use Rattle.clock.proofs.Numbers.{uts-told, hands-value}
 use Rattle.clock.proofs.many.reply_uts.Statement.{statement}
 use Rattle.clock.proofs.many.reply_uts.Tie as tie
@@ -10,7 +11,7 @@ returns c s p =
     let early-uts = c .before .before .early-uts in
     let uts-number = c .before .uts-number in
     let uts-value = c .uts-value in
-    hands-value 0 utsAnswer utsNumber utsValue uts-told _ _ (early-uts .ensures s (p .list)) _ (uts-number .ensures) _ (uts-value .ensures)
+    hands-value 0 utsAnswer utsNumber utsValue uts-told _ _ (early-uts .ensures s (list-in p)) _ (uts-number .ensures) _ (uts-value .ensures)
 
 found-requires : tie.Need-found-requires
 found-requires c κs =

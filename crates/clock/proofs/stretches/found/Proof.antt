@@ -60,7 +60,7 @@ returns c s p =
     let d : smaller .result < endDay = omega (arith, pre .2) in
     let v =
     surveyed-in p (smaller .result) (walk .result) (walk .result + 1) d (walk .ensures) (λ t. refl) (λ ne. absurd (ne (if1 .taken))) _ refl refl refl refl refl in
-    day-for-near (p .list) (rw e at (day-by .ensures s (smaller .result) v (p .list .is-last)))
+    day-for-near (p .is-last) (rw e at (day-by .ensures s (smaller .result) v (λ w. p .is-last)))
 
 returns-2 : tie.Need-returns-2
 returns-2 c s p =
@@ -73,7 +73,7 @@ returns-2 c s p =
     let d : smaller .result < endDay = omega (arith, pre .2) in
     let v =
     surveyed-in p (smaller .result) (walk .result) (walk .result) d (walk .ensures) (λ t. absurd (if1 .left t)) (λ ne. refl) _ refl refl refl refl refl in
-    day-for-near (p .list) (rw e at (day-by2 .ensures s (smaller .result) v (p .list .is-last)))
+    day-for-near (p .is-last) (rw e at (day-by2 .ensures s (smaller .result) v (λ w. p .is-last)))
 
 pub found-spec : {M : Type 1} → statement M
 found-spec =

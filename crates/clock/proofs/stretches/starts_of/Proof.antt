@@ -6,35 +6,26 @@ use borrow.Author.Needs.{needs}
 use Rattle.calendar.specs.Calendar.{monthStart}
 use Rattle.calendar.proofs.Laws.{start-min}
 use Rattle.schedule.specs.WordLayout.{countWord, meant}
-use Rattle.clock.proofs.Checks.{passed, failed, not-well-formed}
 use Rattle.clock.proofs.LaidOut.{count-meant, leap-meant, month-meant}
-use Rattle.clock.proofs.Preparing.{Starting, starting-none, starting-one, starting-all, starting-not}
+use Rattle.clock.proofs.Preparing.{Starting, starting-none, starting-one, starting-all}
 use Rattle.clock.proofs.stretches.starts_of.Statement.{statement}
 use Rattle.clock.proofs.stretches.starts_of.Tie as tie
 
 abbrev Inv-loop : tie.InvT-loop
-Inv-loop words well starts₀ count i₀ starts i = Starting (meant words) starts i
+Inv-loop words starts₀ count i₀ starts i = Starting (meant words) starts i
 
 abbrev μ-loop : tie.MeasureT-loop
-μ-loop words well starts₀ count i₀ starts i = count - i
-
-returns : tie.Need-returns Inv-loop μ-loop
-returns c =
-    let args = c .before .args in
-    let pre = c .before .pre in
-    let if1 = c .if1 in
-    starting-not (meant (args .words .now)) (not-well-formed (failed pre (if1 .taken)))
+μ-loop words starts₀ count i₀ starts i = count - i
 
 cast-first-day : tie.Need-cast-first-day Inv-loop μ-loop
 cast-first-day c =
-    let args = c .before .before .before .before .before .args in
-    let pre = c .before .before .before .before .before .pre in
-    let if1 = c .before .before .before .before .if1 in
+    let args = c .before .before .before .before .args in
+    let pre = c .before .before .before .before .pre in
     let loop = c .before .before .loop in
     let loop-test = c .before .loop-test in
     let leaps-in = c .before .before .before .leaps-in in
     let words = args .words .now in
-    let w = passed pre (if1 .left) in
+    let w = pre in
     let m = month-meant words w (loop .i) (omega (arith, loop-test .taken, leaps-in .ensures .0, count-meant words w)) in
     omega arith
 
@@ -46,15 +37,14 @@ array-write-starts-2 c =
 
 loop-again : tie.Need-loop-again Inv-loop μ-loop
 loop-again c =
-    let args = c .before .before .before .before .before .before .args in
-    let pre = c .before .before .before .before .before .before .pre in
-    let if1 = c .before .before .before .before .before .if1 in
+    let args = c .before .before .before .before .before .args in
+    let pre = c .before .before .before .before .before .pre in
     let leaps-in = c .before .before .before .before .leaps-in in
     let loop = c .before .before .before .loop in
     let loop-test = c .before .before .loop-test in
     let first-day = c .first-day in
     let words = args .words .now in
-    let w = passed pre (if1 .left) in
+    let w = pre in
     let n = leaps-in .ensures in
     let h : loop .i < countWord words = omega (arith, loop-test .taken, n .0, count-meant words w) in
     starting-one (loop .inv) (omega arith) (omega (arith, loop-test .taken)) (first-day .result)
@@ -62,17 +52,16 @@ loop-again c =
 
 leaps-in-requires : tie.Need-leaps-in-requires Inv-loop μ-loop
 leaps-in-requires c κs =
-    let pre = c .before .pre in
-    let if1 = c .if1 in
-    passed pre (if1 .left)
+    let pre = c .pre in
+    pre
 
 loop-holds : tie.Need-loop-holds Inv-loop μ-loop
 loop-holds c =
-    let args = c .before .before .args in
+    let args = c .before .args in
     starting-none (meant (args .words .now))
 
-returns-2 : tie.Need-returns-2 Inv-loop μ-loop
-returns-2 c =
+returns : tie.Need-returns Inv-loop μ-loop
+returns c =
     let leaps-in = c .before .before .leaps-in in
     let loop = c .before .loop in
     let loop-test = c .loop-test in
@@ -86,7 +75,6 @@ starts-of-spec =
     Inv-loop
     μ-loop
     (λ c. search needs)
-    returns
     leaps-in-requires
     loop-holds
     (λ c. omega arith)
@@ -100,4 +88,4 @@ starts-of-spec =
     (λ c. omega arith)
     (λ c. omega arith)
     loop-again
-    returns-2)
+    returns)

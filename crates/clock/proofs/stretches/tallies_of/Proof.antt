@@ -6,34 +6,25 @@ use borrow.Author.Needs.{needs}
 use Rattle.schedule.specs.Extends.{sameSign}
 use Rattle.schedule.specs.WordLayout.{meant}
 use Rattle.clock.specs.Days.{count}
-use Rattle.clock.proofs.Checks.{passed, failed, not-well-formed}
 use Rattle.clock.proofs.LaidOut.{count-meant, full-meant, leap-meant}
-use Rattle.clock.proofs.Preparing.{Tallying, tallying-none, tallying-one, tallying-all, tallying-not}
+use Rattle.clock.proofs.Preparing.{Tallying, tallying-none, tallying-one, tallying-all}
 use Rattle.clock.proofs.stretches.tallies_of.Statement.{statement}
 use Rattle.clock.proofs.stretches.tallies_of.Tie as tie
 
 abbrev Inv-loop : tie.InvT-loop
-Inv-loop words well sign tallies₀ count n₀ i₀ tallies n i = Tallying (meant words) sign tallies n i
+Inv-loop words sign tallies₀ count n₀ i₀ tallies n i = Tallying (meant words) sign tallies n i
 
 abbrev μ-loop : tie.MeasureT-loop
-μ-loop words well sign tallies₀ count n₀ i₀ tallies n i = count - i
-
-returns : tie.Need-returns Inv-loop μ-loop
-returns c =
-    let args = c .before .args in
-    let pre = c .before .pre in
-    let if1 = c .if1 in
-    tallying-not (meant (args .words .now)) (args .sign) _ (not-well-formed (failed pre (if1 .taken)))
+μ-loop words sign tallies₀ count n₀ i₀ tallies n i = count - i
 
 leaps-in-requires : tie.Need-leaps-in-requires Inv-loop μ-loop
 leaps-in-requires c κs =
-    let pre = c .before .pre in
-    let if1 = c .if1 in
-    passed pre (if1 .left)
+    let pre = c .pre in
+    pre
 
 loop-holds : tie.Need-loop-holds Inv-loop μ-loop
 loop-holds c =
-    let args = c .before .before .args in
+    let args = c .before .args in
     tallying-none (meant (args .words .now)) (args .sign)
 
 add-n : tie.Need-add-n Inv-loop μ-loop
@@ -52,21 +43,20 @@ array-write-tallies c =
 
 loop-again : tie.Need-loop-again Inv-loop μ-loop
 loop-again c =
-    let args = c .before .before .before .before .before .before .args in
-    let pre = c .before .before .before .before .before .before .pre in
-    let if1 = c .before .before .before .before .before .if1 in
+    let args = c .before .before .before .before .before .args in
+    let pre = c .before .before .before .before .before .pre in
     let leaps-in = c .before .before .before .before .leaps-in in
     let loop = c .before .before .before .loop in
     let loop-test = c .before .before .loop-test in
     let is-of = c .is-of in
     let words = args .words .now in
-    let w = passed pre (if1 .left) in
+    let w = pre in
     let n = leaps-in .ensures in
     tallying-one (loop .inv) (full-meant words w) (omega arith) (omega (arith, loop-test .taken)) (is-of .result)
     (is-of .ensures .0 ∙ sym (ap (λ l. count (sameSign (args .sign) (l .sign))) (leap-meant words w (loop .i) (omega (arith, loop-test .taken, n .0, count-meant words w)))), is-of .ensures .1)
 
-returns-2 : tie.Need-returns-2 Inv-loop μ-loop
-returns-2 c =
+returns : tie.Need-returns Inv-loop μ-loop
+returns c =
     let loop = c .before .loop in
     let leaps-in = c .before .before .leaps-in in
     let loop-test = c .loop-test in
@@ -78,7 +68,6 @@ tallies-of-spec =
     (tie.spec
     Inv-loop
     μ-loop
-    returns
     leaps-in-requires
     loop-holds
     (λ c. omega arith)
@@ -93,4 +82,4 @@ tallies-of-spec =
     (λ c. omega arith)
     (λ c. omega arith)
     loop-again
-    returns-2)
+    returns)
