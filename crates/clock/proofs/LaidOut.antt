@@ -16,7 +16,7 @@ use Rattle.schedule.proofs.Gaps.{parts}
 use Rattle.schedule.proofs.Formed.{used}
 use Rattle.schedule.proofs.WordLayout.{small-month, leaps-length, leap-there, signs-none, signs-one, layout-meant, well-meant}
 use Rattle.clock.specs.Known.{lastDay}
-use Rattle.clock.specs.Inner.{wordsHalf}
+use Rattle.clock.specs.Inner.{greatMonth}
 use Rattle.clock.proofs.Places.{eqb-sum, Gapped, gapped-none, gapped-one, gapped-all}
 
 pub full : (words : List ℕ) → length (leapsAt words maxLeaps) ≡ 256
@@ -32,7 +32,7 @@ pub gapped-at-none : (words : List ℕ) → GappedAt words 0 0 0 0
 gapped-at-none words = record { gapped = gapped-none (laidOut words); signed = signs-none words; few = omega arith }
 
 module _ (words : List ℕ) (room : countWord words ≤ maxLeaps) (signs faults last i : ℕ) (p : GappedAt words signs faults last i) where
-  pub gapped-at-one : (z r : ℕ) → i < countWord words → (eqb z 0 ≡ ltb (signWord words i) 2) × (z ≤ 1) → (last < wordsHalf → eqb r 0 ≡ gapFits last (monthWord words i)) × (r ≤ 1)
+  pub gapped-at-one : (z r : ℕ) → i < countWord words → (eqb z 0 ≡ ltb (signWord words i) 2) × (z ≤ 1) → (last < greatMonth → eqb r 0 ≡ gapFits last (monthWord words i)) × (r ≤ 1)
       → GappedAt words (signs + z) (faults + r) (monthWord words i) (i + 1)
   gapped-at-one z r h sign gap =
       let there = leap-there words 256 i (omega arith) in
@@ -43,7 +43,7 @@ module _ (words : List ℕ) (room : countWord words ≤ maxLeaps) (signs faults 
       }
 
   -- after the last leap
-  pub gapped-at-all : countWord words ≤ i → (r : ℕ) → (last < wordsHalf → eqb r 0 ≡ gapFits last (expiryWord words))
+  pub gapped-at-all : countWord words ≤ i → (r : ℕ) → (last < greatMonth → eqb r 0 ≡ gapFits last (expiryWord words))
       → eqb (signs + (faults + r)) 0 ≡ (signsFit words (countWord words) && gapsFit 0 (leapsOf (laidOut words)) (expiryWord words))
   gapped-at-all h r e =
       let place : i ≡ countWord words = omega (arith, p .gapped .place) in

@@ -28,7 +28,7 @@ use Rattle.clock.specs.declared.look.Survey.{Survey}
 use Rattle.clock.specs.declared.days.Day.{Day}
 use Rattle.clock.specs.Days.{count, tally, ending}
 use Rattle.clock.specs.Known.{lastDay, knownTo, known}
-use Rattle.clock.specs.Inner.{wordsHalf, Surveyed, SurveyedOn, endingBy, dayOn, ListFor, DayFor, nearDay}
+use Rattle.clock.specs.Inner.{greatMonth, Surveyed, SurveyedOn, endingBy, dayOn, ListFor, DayFor, nearDay}
 use Rattle.clock.proofs.Leaps.{part}
 use Rattle.clock.proofs.Tai.{count-small, last-inside, tally-after}
 
@@ -46,7 +46,7 @@ one-more (suc faults) r now rest e = rw (ne-eqb (suc faults) 0 (λ z. omega arit
 
 -- ---- a gap told by two differences of 32 bits, which wrap round
 module _ (from to gap past : ℕ) (d : (gap + from) % 4_294_967_296 ≡ to) (e : (past + 1) % 4_294_967_296 ≡ gap) where
-  pub gap-near : from < wordsHalf → past < maxGap → gapFits from to ≡ true
+  pub gap-near : from < greatMonth → past < maxGap → gapFits from to ≡ true
   gap-near f h = simp (lt-ltb from to (omega arith), le-leb (to - from) maxGap (omega arith))
 
   pub gap-far : from < 4_294_967_296 → gap < 4_294_967_296 → past < 4_294_967_296 → maxGap ≤ past → gapFits from to ≡ false
@@ -67,7 +67,7 @@ pub gapped-none : (s : Schedule) → Gapped s 0 0 0
 gapped-none s = record { place = omega arith; gaps = refl; few = omega arith; small = λ e. omega arith }
 
 module _ (s : Schedule) (full : length (s .leaps) ≡ maxLeaps) (room : s .count ≤ maxLeaps) (faults last i : ℕ) (p : Gapped s faults last i) where
-  below-half : faults ≡ 0 → last < wordsHalf
+  below-half : faults ≡ 0 → last < greatMonth
   below-half e = omega (arith, p .small e, p .place)
 
   gaps-one : (at r : ℕ) → i < s .count → at ≡ getD (s .leaps) i noLeap .month → (faults ≡ 0 → eqb r 0 ≡ gapFits last at)
@@ -78,7 +78,7 @@ module _ (s : Schedule) (full : length (s .leaps) ≡ maxLeaps) (room : s .count
       ∙ ap (λ ls. eqb faults 0 && gapsFit last ls (s .expiry)) (in-use s i (omega (arith, used s full i room)))
       ∙ rw (← m) (one-more faults r (gapFits last at) (gapsFit at (drop (i + 1) (leapsOf s)) (s .expiry)) e)
 
-  pub gapped-one : (at r : ℕ) → i < s .count → at ≡ getD (s .leaps) i noLeap .month → (last < wordsHalf → eqb r 0 ≡ gapFits last at) × (r ≤ 1) → Gapped s (faults + r) at (i + 1)
+  pub gapped-one : (at r : ℕ) → i < s .count → at ≡ getD (s .leaps) i noLeap .month → (last < greatMonth → eqb r 0 ≡ gapFits last at) × (r ≤ 1) → Gapped s (faults + r) at (i + 1)
   gapped-one at r h m e =
       let fit : faults ≡ 0 → eqb r 0 ≡ gapFits last at = λ z. e .0 (below-half z) in
       record {
@@ -92,7 +92,7 @@ module _ (s : Schedule) (full : length (s .leaps) ≡ maxLeaps) (room : s .count
       }
 
   -- after the last leap
-  pub gapped-all : s .count ≤ i → (r : ℕ) → (last < wordsHalf → eqb r 0 ≡ gapFits last (s .expiry)) → gapsFit 0 (leapsOf s) (s .expiry) ≡ eqb (faults + r) 0
+  pub gapped-all : s .count ≤ i → (r : ℕ) → (last < greatMonth → eqb r 0 ≡ gapFits last (s .expiry)) → gapsFit 0 (leapsOf s) (s .expiry) ≡ eqb (faults + r) 0
   gapped-all h r e =
       p .gaps
       ∙ ap (λ b. eqb faults 0 && b) (gap-last s full i room h last (s .expiry) ∙ sym (and-true (gapFits last (s .expiry))))

@@ -9,6 +9,7 @@ mod days;
 mod inplace;
 mod instants;
 mod look;
+mod loops;
 pub mod many;
 mod questions;
 mod smooth;

@@ -11,7 +11,7 @@ ghost use Rattle.schedule.specs.Schedule.{maxLeaps, leapsOf, gapFits, isUnused,
 ghost use Rattle.schedule.specs.Extends.{sameSign};
 ghost use Rattle.schedule.specs.declared.Sign.the-variants.{Positive, Negative};
 ghost use Rattle.clock.specs.Days.{count};
-ghost use Rattle.clock.specs.Inner.{wordsHalf, ByMonth, Lowered, Ahead, TalliedOn, Surveyed};
+ghost use Rattle.clock.specs.Inner.{greatMonth, ByMonth, Lowered, Ahead, TalliedOn, Surveyed};
 use schedule::LAST_MONTH;
 use schedule::Leap;
 use schedule::MAX_GAP;
@@ -37,7 +37,7 @@ pub(crate) fn wide(x: u16) -> u32
 // 0 if the gap from a month to another is 1 to 999, else 1. One comparison sees both ends: a gap below 1 wraps round to a great number. From a
 // month as great as no list has, a gap may wrap too.
 pub(crate) fn misfit(from: u32, to: u32) -> u32
-    ensures { λ r. ⌜ (from < wordsHalf → eqb r 0 ≡ gapFits from to) × (r ≤ 1) ⌝ }
+    ensures { λ r. ⌜ (from < greatMonth → eqb r 0 ≡ gapFits from to) × (r ≤ 1) ⌝ }
 {
     let gap = std::num::wrapping_sub_u32(to, from);
     if std::num::wrapping_sub_u32(gap, 1) < MAX_GAP {

@@ -1,10 +1,10 @@
--- `clock::many::reply_micros` meets its contract. Assumes nothing.
+-- `clock::loops::reply_micros` meets its contract. Assumes nothing.
 use borrow.Author.Needs.{needs}
 use Rattle.clock.specs.Answers.{microsAnswer, microsNumber, microsValue}
 use Rattle.clock.proofs.Stretched.{list-in}
 use Rattle.clock.proofs.Numbers.{micros-told, hands-value}
-use Rattle.clock.proofs.many.reply_micros.Statement.{statement}
-use Rattle.clock.proofs.many.reply_micros.Tie as tie
+use Rattle.clock.proofs.loops.reply_micros.Statement.{statement}
+use Rattle.clock.proofs.loops.reply_micros.Tie as tie
 
 returns : tie.Need-returns
 returns c s p =

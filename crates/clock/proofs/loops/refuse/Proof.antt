@@ -1,12 +1,12 @@
--- `clock::many::refuse` meets its contract. Assumes nothing.
+-- `clock::loops::refuse` meets its contract. Assumes nothing.
 use mathlib.Core.Path.{refl}
 use Prim.Native.Nat.{ℕ, _-_}
 use native.Mathlib.Omega.{arith}
 use Rattle.refusals.specs.Refusals.{notWellFormed}
 use borrow.Author.Needs.{needs}
 use Rattle.clock.proofs.Filled.{Upto, upto-none, upto-length, upto-one, upto-all}
-use Rattle.clock.proofs.many.refuse.Statement.{statement}
-use Rattle.clock.proofs.many.refuse.Tie as tie
+use Rattle.clock.proofs.loops.refuse.Statement.{statement}
+use Rattle.clock.proofs.loops.refuse.Tie as tie
 
 abbrev Inv-loop : tie.InvT-loop
 Inv-loop numbers₀ n i₀ numbers i = Upto (λ (k : ℕ). notWellFormed) n numbers₀ numbers i

@@ -1,4 +1,4 @@
--- `clock::many::answer_utc` meets its contract: up to element i the arrays are filled. Assumes nothing.
+-- `clock::loops::answer_utc` meets its contract: up to element i the arrays are filled. Assumes nothing.
 use mathlib.Core.Path.{refl}
 use Prim.Native.Nat.{ℕ, _-_}
 use native.Mathlib.Omega.{arith}
@@ -10,8 +10,8 @@ use Rattle.clock.proofs.Numbers.{hands-utc}
 use Rattle.clock.proofs.Places.{near-by}
 use Rattle.clock.proofs.Preparing.{prepared-list}
 use Rattle.clock.proofs.Filled.{Upto, upto-none, upto-length, upto-one, upto-all}
-use Rattle.clock.proofs.many.answer_utc.Statement.{statement}
-use Rattle.clock.proofs.many.answer_utc.Tie as tie
+use Rattle.clock.proofs.loops.answer_utc.Statement.{statement}
+use Rattle.clock.proofs.loops.answer_utc.Tie as tie
 
 abbrev Inv-loop : tie.InvT-loop
 Inv-loop words tais numbers₀ days₀ micros₀ n last starts ups downs guesses i₀ numbers days micros i =

@@ -1,10 +1,10 @@
--- `clock::many::reply_uts` meets its contract. Assumes nothing.
+-- `clock::loops::reply_uts` meets its contract. Assumes nothing.
 use borrow.Author.Needs.{needs}
 use Rattle.clock.specs.Answers.{utsAnswer, utsNumber, utsValue}
 use Rattle.clock.proofs.Stretched.{list-in}
 use Rattle.clock.proofs.Numbers.{uts-told, hands-value}
-use Rattle.clock.proofs.many.reply_uts.Statement.{statement}
-use Rattle.clock.proofs.many.reply_uts.Tie as tie
+use Rattle.clock.proofs.loops.reply_uts.Statement.{statement}
+use Rattle.clock.proofs.loops.reply_uts.Tie as tie
 
 returns : tie.Need-returns
 returns c s p =

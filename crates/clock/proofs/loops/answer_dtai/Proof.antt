@@ -1,4 +1,4 @@
--- `clock::many::answer_dtai` meets its contract. Assumes nothing.
+-- `clock::loops::answer_dtai` meets its contract. Assumes nothing.
 use mathlib.Core.Path.{refl, _∙_}
 use Prim.Native.Nat.{_-_}
 use native.Mathlib.Omega.{arith}
@@ -13,8 +13,8 @@ use Rattle.clock.specs.Many.{answerAt}
 use Rattle.clock.proofs.Numbers.{dtai-told, hands-value}
 use Rattle.clock.proofs.Preparing.{prepared-list}
 use Rattle.clock.proofs.Filled.{Filling, filling-none, numbers-length, values-length, filling-one, filling-all}
-use Rattle.clock.proofs.many.answer_dtai.Statement.{statement}
-use Rattle.clock.proofs.many.answer_dtai.Tie as tie
+use Rattle.clock.proofs.loops.answer_dtai.Statement.{statement}
+use Rattle.clock.proofs.loops.answer_dtai.Tie as tie
 
 abbrev Inv-loop : tie.InvT-loop
 Inv-loop words days numbers₀ dtais₀ n last starts ups downs guesses i₀ numbers dtais i =

@@ -1,9 +1,9 @@
--- `clock::many::reply_tai` meets its contract. Assumes nothing.
+-- `clock::loops::reply_tai` meets its contract. Assumes nothing.
 use borrow.Author.Needs.{needs}
 use Rattle.clock.specs.Answers.{taiAnswer, taiNumber, taiValue}
 use Rattle.clock.proofs.Numbers.{tai-told, hands-value}
-use Rattle.clock.proofs.many.reply_tai.Statement.{statement}
-use Rattle.clock.proofs.many.reply_tai.Tie as tie
+use Rattle.clock.proofs.loops.reply_tai.Statement.{statement}
+use Rattle.clock.proofs.loops.reply_tai.Tie as tie
 
 found-requires : tie.Need-found-requires
 found-requires c κs =
