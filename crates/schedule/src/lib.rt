@@ -4,8 +4,8 @@ ghost use Prim.Native.Nat.{_≤_};
 ghost use lib.ListN.{length, drop};
 ghost use Rattle.schedule.specs.Schedule.{blankSchedule, leapsOf, gapFits, gapsFit, isUnused, allUnused, wellFormed};
 ghost use Rattle.schedule.specs.Extends.{sameSign, sameLeap, extends};
-ghost use Rattle.schedule.specs.Words.{leapOf, wordOf, fromWords};
-ghost use Rattle.schedule.specs.Answers.{refusal, accepted};
+ghost use Rattle.schedule.specs.WordLayout.{signOf, meant, wordOfSign};
+ghost use Rattle.schedule.specs.Answers.{refusal, HandsReading};
 
 // A schedule has at most 256 leaps.
 pub const MAX_LEAPS: usize = 256;
@@ -70,40 +70,36 @@ pub fn wide(x: u16) -> u32
     x as u32
 }
 
-// A leap as one number, for readers that collect leaps: twice its month, and one more where it is negative. So 0 is an unused place; and
-// it is given for a month past 2400, at which no list has a leap.
-pub fn leap_word(month: u32, sign: Sign) -> u16
-    ensures { λ r. ⌜ r ≡ wordOf month sign ⌝ }
+// The word of a sign.
+pub fn word_of_sign(sign: Sign) -> u32
+    ensures { λ r. ⌜ r ≡ wordOfSign sign ⌝ }
 {
-    if LAST_MONTH < month {
-        return 0;
-    }
     match sign {
-        Sign::Positive => (month * 2) as u16,
-        Sign::Negative => (month * 2 + 1) as u16,
+        Sign::Positive => 0,
+        Sign::Negative => 1,
     }
 }
 
-// The leap that a number stands for.
-fn leap_of(word: u16) -> Leap
-    ensures { λ r. ⌜ r ≡ leapOf word ⌝ }
+// The sign of a word.
+fn sign_of(negative: u32) -> Sign
+    ensures { λ r. ⌜ r ≡ signOf negative ⌝ }
 {
-    let month = word / 2;
-    if word % 2 == 0 {
-        return Leap {
-            month,
-            sign: Sign::Positive,
-        };
+    if negative == 0 {
+        return Sign::Positive;
     }
-    Leap {
-        month,
-        sign: Sign::Negative,
-    }
+    Sign::Negative
 }
 
-// The schedule whose places are given as numbers.
-pub fn from_words(words: [u16; 256], count: usize, expiry: u32) -> Schedule
-    ensures { λ r. ⌜ r ≡ fromWords words count expiry ⌝ }
+// A word as a wider number.
+fn size(x: u32) -> usize
+    ensures { λ r. ⌜ r ≡ x ⌝ }
+{
+    x as usize
+}
+
+// The schedule that the words stand for; the blank one where they stand for none.
+pub fn of_words(words: &[u32; 514]) -> Schedule
+    ensures { λ r. ⌜ r ≡ meant (now (words .entry)) ⌝ }
 {
     let none = Leap {
         month: 0,
@@ -112,36 +108,34 @@ pub fn from_words(words: [u16; 256], count: usize, expiry: u32) -> Schedule
     let mut leaps = [none; 256];
     let mut i: usize = 0;
     while i < 256 {
-        leaps[i] = leap_of(words[i]);
+        let month = words[2 * i];
+        let negative = words[2 * i + 1];
+        if 65_536 <= month {
+            return blank();
+        }
+        if 2 <= negative {
+            return blank();
+        }
+        leaps[i] = Leap {
+            month: month as u16,
+            sign: sign_of(negative),
+        };
         i += 1;
     }
     Schedule {
         leaps,
-        count,
-        expiry,
+        count: size(words[512]),
+        expiry: words[513],
     }
 }
 
-// A reader's refusal.
-pub fn refuse(number: u8, place: usize) -> Reading
-    ensures { λ r. ⌜ r ≡ refusal number place ⌝ }
+// Hands a reader's refusal over: its number, its place and the words of the blank schedule.
+pub fn hand_refusal(number: u8, at: usize, out: &mut [u32; 514], place: &mut u64) -> u8
+    ensures { λ n. ⌜ HandsReading (refusal number at) n (now (out .exit)) (now (place .exit)) ⌝ }
 {
-    Reading {
-        number,
-        place,
-        schedule: blank(),
-    }
-}
-
-// A reader's answer where a list is taken, from the leaps as numbers.
-pub fn accept(words: [u16; 256], count: usize, expiry: u32) -> Reading
-    ensures { λ r. ⌜ r ≡ accepted (fromWords words count 0) expiry ⌝ }
-{
-    Reading {
-        number: 0,
-        place: 0,
-        schedule: from_words(words, count, expiry),
-    }
+    *out = [0u32; 514];
+    *place = at as u64;
+    number
 }
 
 // Whether a gap from a month to another is 1 to 999.

@@ -1,4 +1,4 @@
--- `leap::schedule_of` meets its contract. The loop's invariant: the leaps so far are those of the words so far. Assumes nothing.
+-- `schedule::of_words` meets its contract. The loop's invariant: the leaps so far are those of the words so far. Assumes nothing.
 use mathlib.Core.Path.{_≡_, refl, sym, _∙_}
 use mathlib.Core.Bool.{true, _&&_}
 use Prim.Native.Nat.{_≤_, _<_, _-_}
@@ -6,10 +6,10 @@ use native.Mathlib.Omega.{arith}
 use borrow.Author.Needs.{needs}
 use borrow.Author.Tests.{lt-ltb, le-ltb}
 use lib.ListN.{length, take, length-set}
 use Rattle.schedule.specs.WordLayout.{standsForLeap, standForLeaps, leapsAt}
-use Rattle.leap.proofs.Meant as laws
-use Rattle.leap.proofs.schedule_of.Statement.{statement}
-use Rattle.leap.proofs.schedule_of.Tie as tie
+use Rattle.schedule.proofs.Meant as laws
+use Rattle.schedule.proofs.of_words.Statement.{statement}
+use Rattle.schedule.proofs.of_words.Tie as tie
 
 abbrev Inv-loop : tie.InvT-loop
 Inv-loop words leaps₀ i₀ leaps i =
@@ -47,8 +47,8 @@ returns-3 c =
     let at = c .before .before .before .before .loop in
     laws.is-schedule _ (at .i) (at .leaps) _ _ (c .before .before .before .loop-test .left) (at .inv .0) (at .inv .1) (at .inv .2) (at .inv .3) (c .before .size .ensures) refl
 
-pub schedule-of-spec : {M : Type 1} → statement M
-schedule-of-spec =
+pub of-words-spec : {M : Type 1} → statement M
+of-words-spec =
     tie.close
     (tie.spec
     Inv-loop
