@@ -10,7 +10,6 @@ use lib.Dec.{ltb, eqb}
 use lib.ListN.{length}
 use borrow.Author.Tests.{eqb-true, eqb-false}
 use Rattle.schedule.specs.declared.Sign.{Sign}
-use Rattle.schedule.specs.declared.Reading.{Reading}
 use Rattle.schedule.specs.Schedule.{blankSchedule, wellFormed}
 use Rattle.schedule.proofs.Cases.{by-cond}
 use Rattle.schedule.proofs.Sound.{Formed, never, Sound, sound-leap, sound-end, blank-sound}

@@ -7,18 +7,15 @@ use Prim.Native.Nat.{ℕ, suc, _+_, _≤_, _<_}
 use native.Mathlib.Numerals.{add-one}
 use native.Mathlib.Nat.{add-sub-cancel-left, lt-suc-self}
 use native.Mathlib.Omega.{arith}
-use lib.ListN.{length, getD, drop, take, set, length-set}
+use lib.ListN.{length, getD, drop, set, length-set}
 use lib.Seq.{drop-cons, take-suc-set, drop-set-lt}
-use lib.Dec.{eqb}
-use borrow.Author.Tests.{lt-ltb, le-leb, eqb-true, eqb-false}
+use borrow.Author.Tests.{lt-ltb, le-leb}
 use Rattle.schedule.specs.declared.Sign.{Sign}
 use Rattle.schedule.specs.declared.Leap.{Leap}
 use Rattle.schedule.specs.declared.Schedule.{Schedule}
 use Rattle.schedule.specs.declared.Reading.{Reading}
 use Rattle.schedule.specs.Schedule.{noLeap, blankSchedule, leapsOf, gapFits, gapsFit, isUnused, allUnused, wellFormed}
 use Rattle.schedule.specs.Answers.{withLeap, refusal, accepted}
-use Rattle.schedule.proofs.Cases.{by-bool}
-use Rattle.schedule.proofs.Gaps.{parts}
 
 -- a reading that is accepted has place 0 and a well-formed schedule, and one that is refused the blank schedule; either has 256 places
 pub record Formed (r : Reading) : Type 0 where

@@ -1,6 +1,6 @@
 -- The words of a schedule stand for it: what a reader hands over means the schedule that was read.
 -- Assumes nothing.
-use mathlib.Core.Path.{_≡_, refl, sym, ap, _∙_}
+use mathlib.Core.Path.{_≡_, refl, ap, _∙_}
 use mathlib.Core.Bool.{true}
 use mathlib.Core.List.{List, [], _∷_, _++_}
 use Prim.Native.Nat.{ℕ, zero, suc, _+_, _*_, _≤_, _<_}
@@ -16,7 +16,7 @@ use Rattle.schedule.specs.declared.Leap.{Leap}
 use Rattle.schedule.specs.declared.Schedule.{Schedule}
 use Rattle.schedule.specs.declared.Reading.{Reading}
 use Rattle.schedule.specs.Schedule.{noLeap, blankSchedule, wellFormed}
-use Rattle.schedule.specs.WordLayout.{monthWord, signWord, signOf, leapAt, leapsAt, standForLeaps, meant, wordOfSign, leapWords, wordsOf}
+use Rattle.schedule.specs.WordLayout.{signOf, leapAt, leapsAt, standForLeaps, meant, wordOfSign, leapWords, wordsOf}
 use Rattle.schedule.specs.Answers.{HandsReading}
 use Rattle.schedule.proofs.Cases.{by-bool}
 use Rattle.schedule.proofs.Sound.{Formed}

@@ -1,6 +1,5 @@
 -- `nybbles::read_nybbles` meets its contract: the words that are handed over mean the schedule that was read. Assumes nothing.
 use borrow.Author.Needs.{needs}
-use mathlib.Core.Path.{_≡_, sym, _∙_}
 use Rattle.schedule.proofs.Stand.{hands-meant}
 use Rattle.nybbles.proofs.Sound.{read-formed}
 use Rattle.nybbles.proofs.read_nybbles.Statement.{statement}

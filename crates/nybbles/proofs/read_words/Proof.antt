@@ -1,5 +1,4 @@
 -- `nybbles::read_words` meets its contract. The loop's invariant: the words have the schedule so far, and reading on gives the answer. Assumes nothing.
-use mathlib.Core.Path.{_≡_, sym, _∙_}
 use Prim.Native.Nat.{_*_, _-_}
 use native.Mathlib.Omega.{arith}
 use lib.ListN.{length}

@@ -1,7 +1,7 @@
 -- `schedule::of_words` meets its contract. The loop's invariant: the leaps so far are those of the words so far. Assumes nothing.
 use mathlib.Core.Path.{_≡_, refl, sym, _∙_}
-use mathlib.Core.Bool.{true, _&&_}
-use Prim.Native.Nat.{_≤_, _<_, _-_}
+use mathlib.Core.Bool.{true}
+use Prim.Native.Nat.{_≤_, _-_}
 use native.Mathlib.Omega.{arith}
 use borrow.Author.Needs.{needs}
 use borrow.Author.Tests.{lt-ltb, le-ltb}
