@@ -1,10 +1,12 @@
 // A schedule of leap seconds, by value, and what readers and writers of it answer.
 ghost use mathlib.Core.Path.{_≡_};
+ghost use mathlib.Core.Bool.{true, _&&_};
 ghost use Prim.Native.Nat.{_≤_};
+ghost use lib.Dec.{ltb};
 ghost use lib.ListN.{length, drop};
-ghost use Rattle.schedule.specs.Schedule.{blankSchedule, leapsOf, gapFits, gapsFit, isUnused, allUnused, wellFormed};
+ghost use Rattle.schedule.specs.Schedule.{maxLeaps, blankSchedule, leapsOf, gapFits, gapsFit, isUnused, allUnused, wellFormed};
 ghost use Rattle.schedule.specs.Extends.{sameSign, sameLeap, extends};
-ghost use Rattle.schedule.specs.WordLayout.{signOf, meant, wordOfSign};
+ghost use Rattle.schedule.specs.WordLayout.{standForLeaps, leapBy, laidOut, meant, wordOfSign};
 ghost use Rattle.schedule.specs.Answers.{refusal, HandsReading};
 
 // A schedule has at most 256 leaps.
@@ -80,16 +82,6 @@ pub fn word_of_sign(sign: Sign) -> u32
     }
 }
 
-// The sign of a word.
-fn sign_of(negative: u32) -> Sign
-    ensures { λ r. ⌜ r ≡ signOf negative ⌝ }
-{
-    if negative == 0 {
-        return Sign::Positive;
-    }
-    Sign::Negative
-}
-
 // A word as a wider number.
 fn size(x: u32) -> usize
     ensures { λ r. ⌜ r ≡ x ⌝ }
@@ -97,29 +89,61 @@ fn size(x: u32) -> usize
     x as usize
 }
 
-// The schedule that the words stand for; the blank one where they stand for none.
-pub fn of_words(words: &[u32; 514]) -> Schedule
-    ensures { λ r. ⌜ r ≡ meant (now (words .entry)) ⌝ }
+// Whether a word is below a limit.
+fn below(word: u32, limit: u32) -> bool
+    ensures { λ r. ⌜ r ≡ ltb word limit ⌝ }
 {
-    let none = Leap {
-        month: 0,
-        sign: Sign::Positive,
-    };
+    word < limit
+}
+
+// Whether both are true.
+fn both(a: bool, b: bool) -> bool
+    ensures { λ r. ⌜ r ≡ (a && b) ⌝ }
+{
+    if a { b } else { false }
+}
+
+// Whether the leaps' words all stand for leaps. The loop goes over all of them, since with a way out it would not be compiled to vectors.
+fn stand_for_leaps(words: &[u32; 514]) -> bool
+    ensures { λ r. ⌜ r ≡ standForLeaps (now (words .entry)) maxLeaps ⌝ }
+{
+    let mut stand = true;
+    let mut i: usize = 0;
+    while i < 256 {
+        let month = below(words[2 * i], 65_536);
+        let sign = below(words[2 * i + 1], 2);
+        stand = both(stand, both(month, sign));
+        i += 1;
+    }
+    stand
+}
+
+// The leap of a month and a sign word.
+fn leap_by(month: u16, negative: u32) -> Leap
+    ensures { λ r. ⌜ r ≡ leapBy month negative ⌝ }
+{
+    if negative == 0 {
+        return Leap {
+            month,
+            sign: Sign::Positive,
+        };
+    }
+    Leap {
+        month,
+        sign: Sign::Negative,
+    }
+}
+
+// The schedule that is laid out in words that stand for leaps.
+fn laid_out(words: &[u32; 514]) -> Schedule
+    requires { ⌜ standForLeaps (now words) maxLeaps ≡ true ⌝ }
+    ensures { λ r. ⌜ r ≡ laidOut (now (words .entry)) ⌝ }
+{
+    let none = leap_by(0, 0);
     let mut leaps = [none; 256];
     let mut i: usize = 0;
     while i < 256 {
-        let month = words[2 * i];
-        let negative = words[2 * i + 1];
-        if 65_536 <= month {
-            return blank();
-        }
-        if 2 <= negative {
-            return blank();
-        }
-        leaps[i] = Leap {
-            month: month as u16,
-            sign: sign_of(negative),
-        };
+        leaps[i] = leap_by(words[2 * i] as u16, words[2 * i + 1]);
         i += 1;
     }
     Schedule {
@@ -127,6 +151,16 @@ pub fn of_words(words: &[u32; 514]) -> Schedule
         count: size(words[512]),
         expiry: words[513],
     }
+}
+
+// The schedule that the words stand for; the blank one where they stand for none.
+pub fn of_words(words: &[u32; 514]) -> Schedule
+    ensures { λ r. ⌜ r ≡ meant (now (words .entry)) ⌝ }
+{
+    if stand_for_leaps(words) {
+        return laid_out(words);
+    }
+    blank()
 }
 
 // Hands a reader's refusal over: its number, its place and the words of the blank schedule.
