@@ -37,7 +37,7 @@ size "$LEAP_LIB_DIR/libleap.a" | awk 'NR > 1 { sum += $2 + $3; n++ } END { exit 
     || fail "the archive has data that can change"
 ok "archive: no data that can change, so no state"
 
-# Readers, writers and calls for many make arrays; a single question looks at the words where they stand.
+# Readers clear the words that they fill, writers and calls for many make arrays; a single question looks at the words where they stand.
 copying=$(objdump -dr "$LEAP_LIB_DIR/libleap.a" \
     | awk '/^[0-9a-f]+ <.*>:$/ { name = $2 } /mem(cpy|move|set)/ { print name }' | sort -u)
 grep -q '<leap_read_text>' <<<"$copying" || fail "objdump shows no copy at all"

@@ -1,5 +1,3 @@
--- The laws of schedules as words, and that the two formats agree.
-pub mod Meant
-pub mod Stand
+-- What a writer hands over, and that the two formats agree.
 pub mod Handed
 pub mod Formats

@@ -1,19 +1,12 @@
--- What the readers and writers of the C interface hand over. Every output is set on every call. (What questions hand over stands in the clock.)
+-- What the writers of the C interface hand over. Every output is set on every call. (What readers hand over stands beside the schedule, and
+-- what questions do in the clock.)
 -- Assumes nothing: these are definitions.
 use Prim.Native.Nat.{ℕ}
 use mathlib.Core.Path.{_≡_}
 use mathlib.Core.List.{List}
 use lib.ListN.{length}
 use Rattle.schedule.specs.declared.Schedule.{Schedule}
-use Rattle.schedule.specs.declared.Reading.{Reading}
 use Rattle.schedule.specs.Answers.{writing, written}
-use Rattle.schedule.specs.WordLayout.{wordsOf}
-
--- a reader hands over the reading: its number, the words of its schedule, and its place
-pub record HandsReading (reading : Reading) (number : ℕ) (words : List ℕ) (place : ℕ) : Type 0 where
-  pub its-number : number ≡ reading .number
-  pub its-words : words ≡ wordsOf (reading .schedule)
-  pub its-place : place ≡ reading .place
 
 -- a writer whose list of a schedule is `list` hands over the number, the count of bytes, and the output that held `before`
 pub record HandsWriting (s : Schedule) (list before : List ℕ) (number count : ℕ) (after : List ℕ) : Type 0 where

@@ -31,7 +31,7 @@ module _
   unfolding readCodes
   alike go =
       by-bool (eqb (fault st c) 0)
-      (λ z. let s = passes st c (eqb-true (fault st c) 0 z) .total in
+      (λ z. let s = passes st c (eqb-true (fault st c) 0 z) .total-fits in
       let t = after-total st c in
       let en = e .enough in
       let ke = e .ends in

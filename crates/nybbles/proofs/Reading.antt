@@ -12,11 +12,11 @@ use Rattle.refusals.specs.Refusals.{badGap, pastLastMonth, tooManyLeaps}
 use Rattle.schedule.specs.declared.Sign.{Sign}
 use Rattle.schedule.specs.declared.Schedule.{Schedule}
 use Rattle.schedule.specs.declared.Reading.{Reading}
-use Rattle.schedule.specs.Schedule.{maxGap, lastMonth}
-use Rattle.schedule.specs.Words.{wordOf, fromWords}
-use Rattle.schedule.specs.Answers.{refusal, accepted}
+use Rattle.schedule.specs.Schedule.{maxGap, lastMonth, blankSchedule}
+use Rattle.schedule.specs.WordLayout.{wordOfSign, Kept}
+use Rattle.schedule.specs.Answers.{refusal, accepted, HandsReading}
 use Rattle.schedule.proofs.Cases.{by-bool}
-use Rattle.schedule.proofs.Words.{with-word}
+use Rattle.schedule.proofs.Kept.{kept-blank, kept-leap, kept-end}
 use Rattle.nybbles.specs.declared.code.Mark.{Mark}
 use Rattle.nybbles.specs.declared.code.Mark.the-variants.{Continues, Leaps, Expires}
 use Rattle.nybbles.specs.declared.code.Code.{Code}
@@ -46,13 +46,13 @@ module _ (st : State) (c : Code) where
       no-fault d = simp (le-leb (st .gap + c .months) maxGap a, le-leb (st .total + c .months) lastMonth b, d)
 
 -- a code that has no fault
-pub passes : (st : State) (c : Code) → fault st c ≡ 0 → Passes st c
+pub passes : (st : State) (c : Code) → fault st c ≡ 0 → Passes (st .gap) (st .total) (st .schedule .count) c
 unfolding fault
 passes st c e =
     by-bool (leb (st .gap + c .months) 999)
     (λ a. by-bool (leb (st .total + c .months) 2400)
     (λ b. by-bool (hasRoom (c .mark) (st .schedule .count))
-    (λ d. record { gap = leb-true _ _ a; total = leb-true _ _ b; room = d })
+    (λ d. record { gap-fits = leb-true _ _ a; total-fits = leb-true _ _ b; room = d })
     (λ d. absurd (omega (arith, simp (a, b, d) at e))))
     (λ b. absurd (omega (arith, simp (a, b) at e))))
     (λ a. absurd (omega (arith, simp a at e)))
@@ -61,11 +61,13 @@ passes st c e =
 pub leap-room : (m : Mark) (n : ℕ) (k : Sign) → m ≡ Leaps k → hasRoom m n ≡ true → n < 256
 leap-room m n k e h = ltb-true n 256 (rw e at h)
 
--- one leap more, as a number
-pub leap-after : (p : Progress) (c : Code) (words : List ℕ) (k : Sign) (w : ℕ) → c .mark ≡ Leaps k → p .total + c .months ≤ 2400 → w ≡ wordOf (p .total + c .months) k
-    → Moves p (record { gap = 0; total = p .total + c .months; count = p .count + 1 }) words (set words (p .count) w) c
+-- one leap more, stored in its place
+pub leap-after : (p : Progress) (c : Code) (words : List ℕ) (k : Sign) (w : ℕ) → c .mark ≡ Leaps k → p .count < 256 → w ≡ wordOfSign k
+    → (s : Schedule) → Kept s (p .count) words
+    → Moves p (record { gap = 0; total = p .total + c .months; count = p .count + 1 }) (set (set words (2 * p .count) (p .total + c .months)) (2 * p .count + 1) w) s c
 unfolding after
-leap-after p c words k w m h e = record { state = rw (m, with-word words (p .count) w (p .total + c .months) k h e) }
+leap-after p c words k w m h e s kept =
+    record { state = rw m; kept = rw m (kept-leap s (p .count) words kept h (p .total + c .months) k w e); few = λ _. omega arith }
 
 -- the months after a code
 marked-total : (m : Mark) (g t : ℕ) (s : Schedule) → marked m g t s .total ≡ t
@@ -108,51 +110,94 @@ module _ (bytes : List ℕ) (at : ℕ) (st : State) (c : Code) (n : Next bytes a
     unfolding readCodes
     ends x = rw (n .divides) (simp (eq-eqb _ _ e, x))
 
--- what holds where the reader's loop is: reading on from there gives the answer
+-- what holds where the reader's loop is: the words have the schedule so far, and reading on from there gives the answer
 pub record Reads (bytes words : List ℕ) (p : Progress) (at : ℕ) : Type 0 where
   pub inside : at ≤ length (nybbles bytes)
   pub short : at ≤ 2 * p .total
   pub gap-fits : p .gap ≤ 999
   pub total-fits : p .total ≤ 2400
-  pub same : readNybbles bytes ≡ reading bytes at (stateOf p words)
+  pub few : p .count ≤ 256
+  pub so-far : Schedule
+  pub kept : Kept so-far (p .count) words
+  pub same : readNybbles bytes ≡ reading bytes at (stateOf p so-far)
 
-pub begins : (bytes : List ℕ) → Reads bytes (replicate 256 0) (record { gap = 0; total = 0; count = 0 }) 0
+pub begins : (bytes : List ℕ) → Reads bytes (replicate 514 0) (record { gap = 0; total = 0; count = 0 }) 0
 unfolding readNybbles
-begins bytes = record { inside = omega arith; short = omega arith; gap-fits = omega arith; total-fits = omega arith; same = refl }
+begins bytes =
+    record {
+      inside = omega arith;
+      short = omega arith;
+      gap-fits = omega arith;
+      total-fits = omega arith;
+      few = omega arith;
+      so-far = blankSchedule;
+      kept = kept-blank;
+      same = refl;
+    }
 
 module _ (bytes words : List ℕ) (at : ℕ) (p : Progress) (h : Reads bytes words p at) where
-  pub ends-early : length (nybbles bytes) ≤ at → (r : Reading) → r ≡ refusal 1 at → r ≡ readNybbles bytes
-  ends-early l r q = q ∙ sym (h .same ∙ ended bytes at (stateOf p words) l)
+  st : State
+  st = stateOf p (h .so-far)
 
-  module _ (c : Code) (n : Next bytes at c) (f : ℕ) (q : (ws : List ℕ) → f ≡ fault (stateOf p ws) c) where
-    pub refuses : (f ≡ 0 → ⊥) → (r : Reading) → r ≡ refusal f at → r ≡ readNybbles bytes
-    refuses e r o = o ∙ (ap (λ (x : ℕ). refusal x at) (q words) ∙ sym (h .same ∙ refused bytes at (stateOf p words) c n (λ z. e (q words ∙ z))))
+  pub ends-early : length (nybbles bytes) ≤ at → (n place : ℕ) (out : List ℕ) → HandsReading (refusal 1 at) n out place → HandsReading (readNybbles bytes) n out place
+  unfolding st
+  ends-early l n place out o = rw (h .same ∙ ended bytes at st l) o
 
-    module _ (e : f ≡ 0) (p′ : Progress) (words′ : List ℕ) (v : Moves p p′ words words′ c) (x : Bool) (m : x ≡ isExpiry (c .mark)) where
-      a : stateOf p′ words′ ≡ after (stateOf p words) c
-      a = v .state
+  module _ (c : Code) (next : Next bytes at c) (f : ℕ) (q : (s : Schedule) → s .count ≡ p .count → f ≡ fault (stateOf p s) c) where
+    found : f ≡ fault st c
+    unfolding st
+    found = q (h .so-far) (h .kept .its-count)
 
-      pub reads-on : x ≡ false → Reads bytes words′ p′ (at + c .size)
-      reads-on b =
-          let z = sym (q words) ∙ e in
-          let s = passes (stateOf p words) c z in
-          let t : p′ .total ≡ p .total + c .months = ap (λ (st : State). st .total) a ∙ after-total (stateOf p words) c in
-          let g : p′ .gap ≡ after (stateOf p words) c .gap = ap (λ (st : State). st .gap) a in
-          let k : after (stateOf p words) c .gap ≤ p .gap + c .months = after-gap (stateOf p words) c in
-          record {
-            inside = n .inside;
-            short = omega (arith, h .short, n .two, n .some);
-            gap-fits = omega (arith, s .gap);
-            total-fits = omega (arith, s .total);
-            same = h .same ∙ (goes bytes at (stateOf p words) c n z (sym m ∙ b) ∙ ap (reading bytes (at + c .size)) (sym a));
-          }
+    pub refuses : (f ≡ 0 → ⊥) → (n place : ℕ) (out : List ℕ) → HandsReading (refusal f at) n out place → HandsReading (readNybbles bytes) n out place
+    unfolding st
+    refuses e n place out o =
+        let is : readNybbles bytes ≡ refusal f at = h .same ∙ (refused bytes at st c next (λ z. e (found ∙ z)) ∙ ap (λ (x : ℕ). refusal x at) (sym found)) in
+        rw is o
 
-      module _ (b : x ≡ true) where
-        last : readNybbles bytes ≡ atEnd (length (nybbles bytes)) (at + c .size) (stateOf p′ words′)
-        last = h .same ∙ (ends bytes at (stateOf p words) c n (sym (q words) ∙ e) (sym m ∙ b) ∙ ap (atEnd (length (nybbles bytes)) (at + c .size)) (sym a))
+    module _ (e : f ≡ 0) where
+      -- the code passes
+      pub passed : Passes (p .gap) (p .total) (p .count) c
+      unfolding st
+      passed = rw (h .kept .its-count) at (passes st c (sym found ∙ e))
 
-        pub refuses-more : at + c .size < length (nybbles bytes) → (r : Reading) → r ≡ refusal 6 (at + c .size) → r ≡ readNybbles bytes
-        refuses-more l r o = o ∙ sym (last ∙ simp (lt-ltb _ _ l))
+      module _ (p′ : Progress) (words′ : List ℕ) (moves : (s : Schedule) → Kept s (p .count) words → Moves p p′ words′ s c) (x : Bool) (m : x ≡ isExpiry (c .mark)) where
+        moved : Moves p p′ words′ (h .so-far) c
+        moved = moves (h .so-far) (h .kept)
 
-        pub accepts : length (nybbles bytes) ≤ at + c .size → (r : Reading) → r ≡ accepted (fromWords words′ (p′ .count) 0) (p′ .total) → r ≡ readNybbles bytes
-        accepts l r o = o ∙ sym (last ∙ simp (le-ltb _ _ l))
+        pub reads-on : x ≡ false → Reads bytes words′ p′ (at + c .size)
+        unfolding st
+        reads-on b =
+            let a = moved .state in
+            let t : p′ .total ≡ p .total + c .months = ap (λ (x : State). x .total) a ∙ after-total st c in
+            let g : p′ .gap ≡ after st c .gap = ap (λ (x : State). x .gap) a in
+            let k : after st c .gap ≤ p .gap + c .months = after-gap st c in
+            record {
+              inside = next .inside;
+              short = omega (arith, h .short, next .two, next .some);
+              gap-fits = omega (arith, passed .gap-fits);
+              total-fits = omega (arith, passed .total-fits);
+              few = moved .few (h .few);
+              so-far = after st c .schedule;
+              kept = moved .kept;
+              same = h .same ∙ (goes bytes at st c next (sym found ∙ e) (sym m ∙ b) ∙ ap (reading bytes (at + c .size)) (sym a));
+            }
+
+        module _ (b : x ≡ true) where
+          last : readNybbles bytes ≡ atEnd (length (nybbles bytes)) (at + c .size) (stateOf p′ (after st c .schedule))
+          unfolding st
+          last = h .same ∙ (ends bytes at st c next (sym found ∙ e) (sym m ∙ b) ∙ ap (atEnd (length (nybbles bytes)) (at + c .size)) (sym (moved .state)))
+
+          pub refuses-more : at + c .size < length (nybbles bytes) → (n place : ℕ) (out : List ℕ) → HandsReading (refusal 6 (at + c .size)) n out place
+              → HandsReading (readNybbles bytes) n out place
+          refuses-more l n place out o =
+              let is : readNybbles bytes ≡ refusal 6 (at + c .size) = last ∙ simp (lt-ltb _ _ l) in
+              rw is o
+
+          pub accepts : length (nybbles bytes) ≤ at + c .size → HandsReading (readNybbles bytes) 0 (set (set words′ 512 (p′ .count)) 513 (p′ .total)) 0
+          unfolding st
+          accepts l =
+              let is : readNybbles bytes ≡ accepted (after st c .schedule) (p′ .total) = last ∙ simp (le-ltb _ _ l) in
+              rw is (kept-end (after st c .schedule) (p′ .count) words′ (moved .kept) (p′ .total))
+
+          pub few-after : p′ .count ≤ 256
+          few-after = moved .few (h .few)

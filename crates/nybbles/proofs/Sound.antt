@@ -10,7 +10,6 @@ use lib.Dec.{ltb, eqb}
 use lib.ListN.{length}
 use borrow.Author.Tests.{eqb-true, eqb-false}
 use Rattle.schedule.specs.declared.Sign.{Sign}
-use Rattle.schedule.specs.declared.Reading.{Reading}
 use Rattle.schedule.specs.Schedule.{blankSchedule, wellFormed}
 use Rattle.schedule.proofs.Cases.{by-cond}
 use Rattle.schedule.proofs.Sound.{Formed, never, Sound, sound-leap, sound-end, blank-sound}
@@ -33,7 +32,7 @@ record Right (base : ℕ) (st : State) : Type 0 where
   total : st .total ≡ base + st .gap
   sound : Sound base (st .schedule)
 
-module _ (st : State) (c : Code) (base : ℕ) (r : Right base st) (h : 0 < c .months) (s : Passes st c) where
+module _ (st : State) (c : Code) (base : ℕ) (r : Right base st) (h : 0 < c .months) (s : Passes (st .gap) (st .total) (st .schedule .count) c) where
   month : st .total + c .months ≡ base + (st .gap + c .months)
   month = omega (arith, r .total)
 
@@ -45,14 +44,14 @@ module _ (st : State) (c : Code) (base : ℕ) (r : Right base st) (h : 0 < c .mo
   unfolding after
   right-leap k m = rw m (record {
     total = omega arith;
-    sound = rw month (sound-leap base (st .gap + c .months) (st .schedule) k (omega arith) (s .gap) (leap-room _ _ k m (s .room)) (r .sound));
+    sound = rw month (sound-leap base (st .gap + c .months) (st .schedule) k (omega arith) (s .gap-fits) (leap-room _ _ k m (s .room)) (r .sound));
   })
 
   right-end : c .mark ≡ Expires → (count p : ℕ) → Formed (atEnd count p (after st c))
   unfolding after
   right-end m count p =
       by-cond Formed (ltb p count) (λ b. never 6 p (omega arith))
-      (λ b. rw (m, month) (sound-end base (st .gap + c .months) (st .schedule) (omega arith) (s .gap) (rw month at (s .total)) (r .sound)))
+      (λ b. rw (m, month) (sound-end base (st .gap + c .months) (st .schedule) (omega arith) (s .gap-fits) (rw month at (s .total-fits)) (r .sound)))
 
 sound : (cs : List Code) (count p base : ℕ) (st : State) → All Some cs → Right base st → Formed (readCodes count p st cs)
 unfolding readCodes

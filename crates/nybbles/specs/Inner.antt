@@ -5,16 +5,17 @@ use mathlib.Core.Path.{_≡_}
 use mathlib.Core.Bool.{true}
 use mathlib.Core.List.{List, _∷_}
 use lib.ListN.{length, take, drop}
-use Rattle.schedule.specs.Schedule.{maxGap, lastMonth}
-use Rattle.schedule.specs.Words.{fromWords}
+use Rattle.schedule.specs.declared.Schedule.{Schedule}
+use Rattle.schedule.specs.Schedule.{maxLeaps, maxGap, lastMonth}
+use Rattle.schedule.specs.WordLayout.{Kept}
 use Rattle.nybbles.specs.declared.code.Code.{Code}
 use Rattle.nybbles.specs.declared.progress.Progress.{Progress}
 use Rattle.nybbles.specs.Codes.{nybbles, codesOf}
 use Rattle.nybbles.specs.Read.{State, hasRoom, after}
 
--- the state that the reader's numbers stand for, with the leaps as numbers
-abbrev pub stateOf : Progress → List ℕ → State
-stateOf p words = record { gap = p .gap; total = p .total; schedule = fromWords words (p .count) 0 }
+-- the state that the reader's numbers stand for, with the schedule so far
+abbrev pub stateOf : Progress → Schedule → State
+stateOf p s = record { gap = p .gap; total = p .total; schedule = s }
 
 -- numbers to which the months of a code can be added
 pub record Short (p : Progress) (c : Code) : Type 0 where
@@ -22,15 +23,17 @@ pub record Short (p : Progress) (c : Code) : Type 0 where
   pub total-fits : p .total ≤ lastMonth
   pub few : c .months ≤ 6 * 16
 
--- a code that passes the checks
-pub record Passes (st : State) (c : Code) : Type 0 where
-  pub gap : st .gap + c .months ≤ maxGap
-  pub total : st .total + c .months ≤ lastMonth
-  pub room : hasRoom (c .mark) (st .schedule .count) ≡ true
+-- a code that passes the checks, after a gap and a total so far and a count of leaps
+pub record Passes (gap total count : ℕ) (c : Code) : Type 0 where
+  pub gap-fits : gap + c .months ≤ maxGap
+  pub total-fits : total + c .months ≤ lastMonth
+  pub room : hasRoom (c .mark) count ≡ true
 
--- the reader's numbers before and after a code
-pub record Moves (p p′ : Progress) (words words′ : List ℕ) (c : Code) : Type 0 where
-  pub state : stateOf p′ words′ ≡ after (stateOf p words) c
+-- the reader's numbers before and after a code, and the words after it, where s is the schedule before it
+pub record Moves (p p′ : Progress) (words′ : List ℕ) (s : Schedule) (c : Code) : Type 0 where
+  pub state : stateOf p′ (after (stateOf p s) c .schedule) ≡ after (stateOf p s) c
+  pub kept : Kept (after (stateOf p s) c .schedule) (p′ .count) words′
+  pub few : p .count ≤ maxLeaps → p′ .count ≤ maxLeaps
 
 -- a code starts at a place
 pub record Next (bytes : List ℕ) (at : ℕ) (c : Code) : Type 0 where

@@ -11,16 +11,16 @@ mod spell; // spell.rt: the written codes of a schedule
 
 ghost use mathlib.Core.Path.{_≡_};
 ghost use lib.ListN.{length};
-ghost use Rattle.schedule.specs.Answers.{writing, written};
+ghost use Rattle.schedule.specs.Answers.{writing, written, HandsReading};
 ghost use Rattle.nybbles.specs.Read.{readNybbles};
 ghost use Rattle.nybbles.specs.Write.{nybblesOf};
 
-// Reads a nybble list; any bytes may be given. One pass, code by code: each code that passes has a month at least, so a list of any length is
-// decided by its 2,401st code. The leaps are kept as numbers until the list is taken.
-pub fn read_nybbles(bytes: &[u8]) -> Reading
-    ensures { λ r. ⌜ r ≡ readNybbles (now (bytes .entry)) ⌝ }
+// Reads a nybble list into the words of its schedule; any bytes may be given. One pass, code by code: each code that passes has a month at
+// least, so a list of any length is decided by its 2,401st code.
+pub fn read_words(bytes: &[u8], out: &mut [u32; 514], place: &mut u64) -> u8
+    ensures { λ n. ⌜ HandsReading (readNybbles (now (bytes .entry))) n (now (out .exit)) (now (place .exit)) ⌝ }
 {
-    let mut words = [0u16; 256];
+    *out = [0u32; 514];
     let mut p = Progress {
         gap: 0,
         total: 0,
@@ -31,19 +31,36 @@ pub fn read_nybbles(bytes: &[u8]) -> Reading
         let c = code::code_at(bytes, at);
         let number = progress::fault_of(p, c);
         if number != 0 {
-            return schedule::refuse(number, at);
+            return schedule::hand_refusal(number, at, out, place);
         }
         at += c.size;
-        p = progress::after_code(p, c, &mut words);
+        p = progress::after_code(p, c, out);
         let mark = c.mark;
         if progress::is_expiry(mark) {
             if at / 2 < bytes.len() {
-                return schedule::refuse(refusals::AFTER_END, at);
+                return schedule::hand_refusal(refusals::AFTER_END, at, out, place);
             }
-            return schedule::accept(words, p.count, p.total);
+            out[512] = p.count as u32;
+            out[513] = p.total;
+            *place = 0;
+            return 0;
         }
     }
-    schedule::refuse(refusals::ENDS_EARLY, at)
+    schedule::hand_refusal(refusals::ENDS_EARLY, at, out, place)
+}
+
+// Reads a nybble list; any bytes may be given.
+pub fn read_nybbles(bytes: &[u8]) -> Reading
+    ensures { λ r. ⌜ r ≡ readNybbles (now (bytes .entry)) ⌝ }
+{
+    let mut words = [0u32; 514];
+    let mut place: u64 = 0;
+    let number = read_words(bytes, &mut words, &mut place);
+    Reading {
+        number,
+        place: place as usize,
+        schedule: schedule::of_words(&words),
+    }
 }
 
 // Writes the nybble list of a schedule, in its one spelling; any schedule and any output may be given.

@@ -5,12 +5,12 @@ use schedule::LAST_MONTH;
 use schedule::MAX_GAP;
 use schedule::MAX_LEAPS;
 ghost use mathlib.Core.Path.{_≡_};
-ghost use mathlib.Core.List.{List};
-ghost use Prim.Native.Nat.{ℕ};
+ghost use Rattle.schedule.specs.declared.Schedule.{Schedule};
+ghost use Rattle.schedule.specs.WordLayout.{Kept};
 ghost use Rattle.nybbles.specs.Read.{hasRoom, isExpiry, fault};
 ghost use Rattle.nybbles.specs.Inner.{stateOf, Short, Passes, Moves};
 
-// The months of the gap, those of the whole list, and how many leaps were read. The leaps stand in an array of their own.
+// The months of the gap, those of the whole list, and how many leaps were read. The leaps stand in the words that are handed over.
 pub(crate) struct Progress {
     pub(crate) gap: u32,
     pub(crate) total: u32,
@@ -42,7 +42,7 @@ pub(crate) fn is_expiry(mark: Mark) -> bool
 // The checks at a code, in their order: a refusal's number, or 0.
 pub(crate) fn fault_of(p: Progress, c: Code) -> u8
     requires { ⌜ Short p c ⌝ }
-    ensures { λ r. ⌜ ((words : List ℕ) → r ≡ fault (stateOf p words) c) ⌝ }
+    ensures { λ r. ⌜ ((s : Schedule) → s .count ≡ p .count → r ≡ fault (stateOf p s) c) ⌝ }
 {
     if MAX_GAP < p.gap + c.months {
         return refusals::BAD_GAP;
@@ -57,10 +57,10 @@ pub(crate) fn fault_of(p: Progress, c: Code) -> u8
     refusals::TOO_MANY_LEAPS
 }
 
-// What is read after a code that passes the checks; the number of its leap goes into `words`.
-pub(crate) fn after_code(p: Progress, c: Code, words: &mut [u16; 256]) -> Progress
-    requires { ⌜ Passes (stateOf p (now words)) c ⌝ }
-    ensures { λ r. ⌜ Moves p r (now (words .entry)) (now (words .exit)) c ⌝ }
+// What is read after a code that passes the checks; its leap goes into `words`.
+pub(crate) fn after_code(p: Progress, c: Code, words: &mut [u32; 514]) -> Progress
+    requires { ⌜ Passes (p .gap) (p .total) (p .count) c ⌝ }
+    ensures { λ r. ⌜ ((s : Schedule) → Kept s (p .count) (now (words .entry)) → Moves p r (now (words .exit)) s c) ⌝ }
 {
     let gap = p.gap + c.months;
     let total = p.total + c.months;
@@ -69,7 +69,8 @@ pub(crate) fn after_code(p: Progress, c: Code, words: &mut [u16; 256]) -> Progre
     match mark {
         Mark::Continues => Progress { gap, total, count },
         Mark::Leaps(sign) => {
-            words[count] = schedule::leap_word(total, sign);
+            words[2 * count] = total;
+            words[2 * count + 1] = schedule::word_of_sign(sign);
             Progress {
                 gap: 0,
                 total,

@@ -5,7 +5,9 @@ pub mod Formed
 pub mod WordLayout
 pub mod Adds
 pub mod Sound
-pub mod Words
+pub mod Kept
+pub mod Meant
+pub mod Stand
 pub mod Answers
 pub mod Extension
 pub mod Stores

@@ -7,33 +7,25 @@ use Prim.Native.Nat.{ℕ, suc, _+_, _≤_, _<_}
 use native.Mathlib.Numerals.{add-one}
 use native.Mathlib.Nat.{add-sub-cancel-left, lt-suc-self}
 use native.Mathlib.Omega.{arith}
-use lib.ListN.{length, getD, drop, take, set, length-set}
+use lib.ListN.{length, getD, drop, set, length-set}
 use lib.Seq.{drop-cons, take-suc-set, drop-set-lt}
-use lib.Dec.{eqb}
-use borrow.Author.Tests.{lt-ltb, le-leb, eqb-true, eqb-false}
+use borrow.Author.Tests.{lt-ltb, le-leb}
 use Rattle.schedule.specs.declared.Sign.{Sign}
 use Rattle.schedule.specs.declared.Leap.{Leap}
 use Rattle.schedule.specs.declared.Schedule.{Schedule}
 use Rattle.schedule.specs.declared.Reading.{Reading}
 use Rattle.schedule.specs.Schedule.{noLeap, blankSchedule, leapsOf, gapFits, gapsFit, isUnused, allUnused, wellFormed}
 use Rattle.schedule.specs.Answers.{withLeap, refusal, accepted}
-use Rattle.schedule.proofs.Cases.{by-bool}
-use Rattle.schedule.proofs.Gaps.{parts}
 
--- a reading that is accepted has place 0 and a well-formed schedule, and one that is refused the blank schedule
+-- a reading that is accepted has place 0 and a well-formed schedule, and one that is refused the blank schedule; either has 256 places
 pub record Formed (r : Reading) : Type 0 where
+  pub full : length (r .schedule .leaps) ≡ 256
   pub formed : r .number ≡ 0 → wellFormed (r .schedule) ≡ true
   pub placed : r .number ≡ 0 → r .place ≡ 0
   pub blank : (r .number ≡ 0 → ⊥) → r .schedule ≡ blankSchedule
 
 pub never : (n p : ℕ) → 0 < n → Formed (refusal n p)
-never n p h = record { formed = λ e. absurd (omega arith); placed = λ e. absurd (omega arith); blank = λ z. refl }
-
--- either way it has at most 256 leaps
-pub few-leaps : (r : Reading) → Formed r → r .schedule .count ≤ 256
-few-leaps r f =
-    by-bool (eqb (r .number) 0) (λ t. parts (r .schedule) (f .formed (eqb-true (r .number) 0 t)) .room)
-    (λ t. let e = ap (λ (s : Schedule). s .count) (f .blank (eqb-false (r .number) 0 t)) in omega arith)
+never n p h = record { full = refl; formed = λ e. absurd (omega arith); placed = λ e. absurd (omega arith); blank = λ z. refl }
 
 and-assoc : (a b c : Bool) → (a && b && c) ≡ (a && (b && c))
 and-assoc true b c = refl
@@ -81,6 +73,7 @@ sound-leap total gap s k p q h d =
 pub sound-end : (total gap : ℕ) (s : Schedule) → 0 < gap → gap ≤ 999 → total + gap ≤ 2400 → Sound total s → Formed (accepted s (total + gap))
 sound-end total gap s p q h d =
     record {
+      full = d .full;
       formed = λ e. simp (le-leb (s .count) 256 (d .room), le-leb (total + gap) 2400 h, d .gaps (total + gap), fits total gap p q, d .rest);
       placed = λ e. refl;
       blank = λ z. absurd (z refl);

@@ -142,11 +142,11 @@ module _ (words : List ℕ) where
           (λ t. sign-zero (signWord words i) (rw there at (plain-sign (laidOut words) full w i (ltb-false i (countWord words) t)))) in
           simp (lt-ltb (monthWord words i) 65_536 (omega arith), lt-ltb (signWord words i) 2 sign)
 
-  is-laid : standForLeaps words 256 ≡ true → meant words ≡ laidOut words
+  pub is-laid : standForLeaps words 256 ≡ true → meant words ≡ laidOut words
   unfolding meant
   is-laid e = simp e
 
-  is-blank : standForLeaps words 256 ≡ false → meant words ≡ blankSchedule
+  pub is-blank : standForLeaps words 256 ≡ false → meant words ≡ blankSchedule
   unfolding meant
   is-blank e = simp e
 

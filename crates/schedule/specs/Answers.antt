@@ -1,6 +1,7 @@
--- What readers and writers answer.
+-- What readers and writers answer, and what a reader hands over as words.
 -- Assumes nothing: these are definitions.
 use Prim.Native.Nat.{ℕ, _+_}
+use mathlib.Core.Path.{_≡_}
 use mathlib.Core.Bool.{_&&_, cond}
 use mathlib.Core.List.{List, _++_}
 use lib.Dec.{leb}
@@ -11,6 +12,7 @@ use Rattle.schedule.specs.declared.Schedule.{Schedule}
 use Rattle.schedule.specs.declared.Reading.{Reading}
 use Rattle.schedule.specs.declared.Writing.{Writing}
 use Rattle.schedule.specs.Schedule.{blankSchedule, wellFormed}
+use Rattle.schedule.specs.WordLayout.{wordsOf}
 
 -- a reader that refuses returns the number, the place and the blank schedule
 abbrev pub refusal : ℕ → ℕ → Reading
@@ -23,6 +25,12 @@ accepted s expiry = record { number = 0; place = 0; schedule = record { leaps = 
 -- one leap more, in the first place that is not in use
 abbrev pub withLeap : Schedule → ℕ → Sign → Schedule
 withLeap s m g = record { leaps = set (s .leaps) (s .count) (record { month = m; sign = g }); count = s .count + 1; expiry = s .expiry }
+
+-- a reader hands over the reading: its number, the words of its schedule, and its place
+pub record HandsReading (reading : Reading) (number : ℕ) (words : List ℕ) (place : ℕ) : Type 0 where
+  pub its-number : number ≡ reading .number
+  pub its-words : words ≡ wordsOf (reading .schedule)
+  pub its-place : place ≡ reading .place
 
 -- what a writer answers whose list of a schedule is `bytes`: refusal 11, then 7, else the count of bytes
 unfoldable pub writing : Schedule → List ℕ → ℕ → Writing

@@ -1,11 +1,13 @@
 // A schedule of leap seconds, by value, and what readers and writers of it answer.
 ghost use mathlib.Core.Path.{_≡_};
+ghost use mathlib.Core.Bool.{true, _&&_};
 ghost use Prim.Native.Nat.{_≤_};
+ghost use lib.Dec.{ltb};
 ghost use lib.ListN.{length, drop};
-ghost use Rattle.schedule.specs.Schedule.{blankSchedule, leapsOf, gapFits, gapsFit, isUnused, allUnused, wellFormed};
+ghost use Rattle.schedule.specs.Schedule.{maxLeaps, blankSchedule, leapsOf, gapFits, gapsFit, isUnused, allUnused, wellFormed};
 ghost use Rattle.schedule.specs.Extends.{sameSign, sameLeap, extends};
-ghost use Rattle.schedule.specs.Words.{leapOf, wordOf, fromWords};
-ghost use Rattle.schedule.specs.Answers.{refusal, accepted};
+ghost use Rattle.schedule.specs.WordLayout.{standForLeaps, leapBy, laidOut, meant, wordOfSign};
+ghost use Rattle.schedule.specs.Answers.{refusal, HandsReading};
 
 // A schedule has at most 256 leaps.
 pub const MAX_LEAPS: usize = 256;
@@ -70,26 +72,57 @@ pub fn wide(x: u16) -> u32
     x as u32
 }
 
-// A leap as one number, for readers that collect leaps: twice its month, and one more where it is negative. So 0 is an unused place; and
-// it is given for a month past 2400, at which no list has a leap.
-pub fn leap_word(month: u32, sign: Sign) -> u16
-    ensures { λ r. ⌜ r ≡ wordOf month sign ⌝ }
+// The word of a sign.
+pub fn word_of_sign(sign: Sign) -> u32
+    ensures { λ r. ⌜ r ≡ wordOfSign sign ⌝ }
 {
-    if LAST_MONTH < month {
-        return 0;
-    }
     match sign {
-        Sign::Positive => (month * 2) as u16,
-        Sign::Negative => (month * 2 + 1) as u16,
+        Sign::Positive => 0,
+        Sign::Negative => 1,
     }
 }
 
-// The leap that a number stands for.
-fn leap_of(word: u16) -> Leap
-    ensures { λ r. ⌜ r ≡ leapOf word ⌝ }
+// A word as a wider number.
+fn size(x: u32) -> usize
+    ensures { λ r. ⌜ r ≡ x ⌝ }
 {
-    let month = word / 2;
-    if word % 2 == 0 {
+    x as usize
+}
+
+// Whether a word is below a limit.
+fn below(word: u32, limit: u32) -> bool
+    ensures { λ r. ⌜ r ≡ ltb word limit ⌝ }
+{
+    word < limit
+}
+
+// Whether both are true.
+fn both(a: bool, b: bool) -> bool
+    ensures { λ r. ⌜ r ≡ (a && b) ⌝ }
+{
+    if a { b } else { false }
+}
+
+// Whether the leaps' words all stand for leaps. The loop goes over all of them, since with a way out it would not be compiled to vectors.
+fn stand_for_leaps(words: &[u32; 514]) -> bool
+    ensures { λ r. ⌜ r ≡ standForLeaps (now (words .entry)) maxLeaps ⌝ }
+{
+    let mut stand = true;
+    let mut i: usize = 0;
+    while i < 256 {
+        let month = below(words[2 * i], 65_536);
+        let sign = below(words[2 * i + 1], 2);
+        stand = both(stand, both(month, sign));
+        i += 1;
+    }
+    stand
+}
+
+// The leap of a month and a sign word.
+fn leap_by(month: u16, negative: u32) -> Leap
+    ensures { λ r. ⌜ r ≡ leapBy month negative ⌝ }
+{
+    if negative == 0 {
         return Leap {
             month,
             sign: Sign::Positive,
@@ -101,47 +134,42 @@ fn leap_of(word: u16) -> Leap
     }
 }
 
-// The schedule whose places are given as numbers.
-pub fn from_words(words: [u16; 256], count: usize, expiry: u32) -> Schedule
-    ensures { λ r. ⌜ r ≡ fromWords words count expiry ⌝ }
+// The schedule that is laid out in words that stand for leaps.
+fn laid_out(words: &[u32; 514]) -> Schedule
+    requires { ⌜ standForLeaps (now words) maxLeaps ≡ true ⌝ }
+    ensures { λ r. ⌜ r ≡ laidOut (now (words .entry)) ⌝ }
 {
-    let none = Leap {
-        month: 0,
-        sign: Sign::Positive,
-    };
+    let none = leap_by(0, 0);
     let mut leaps = [none; 256];
     let mut i: usize = 0;
     while i < 256 {
-        leaps[i] = leap_of(words[i]);
+        leaps[i] = leap_by(words[2 * i] as u16, words[2 * i + 1]);
         i += 1;
     }
     Schedule {
         leaps,
-        count,
-        expiry,
+        count: size(words[512]),
+        expiry: words[513],
     }
 }
 
-// A reader's refusal.
-pub fn refuse(number: u8, place: usize) -> Reading
-    ensures { λ r. ⌜ r ≡ refusal number place ⌝ }
+// The schedule that the words stand for; the blank one where they stand for none.
+pub fn of_words(words: &[u32; 514]) -> Schedule
+    ensures { λ r. ⌜ r ≡ meant (now (words .entry)) ⌝ }
 {
-    Reading {
-        number,
-        place,
-        schedule: blank(),
+    if stand_for_leaps(words) {
+        return laid_out(words);
     }
+    blank()
 }
 
-// A reader's answer where a list is taken, from the leaps as numbers.
-pub fn accept(words: [u16; 256], count: usize, expiry: u32) -> Reading
-    ensures { λ r. ⌜ r ≡ accepted (fromWords words count 0) expiry ⌝ }
+// Hands a reader's refusal over: its number, its place and the words of the blank schedule.
+pub fn hand_refusal(number: u8, at: usize, out: &mut [u32; 514], place: &mut u64) -> u8
+    ensures { λ n. ⌜ HandsReading (refusal number at) n (now (out .exit)) (now (place .exit)) ⌝ }
 {
-    Reading {
-        number: 0,
-        place: 0,
-        schedule: from_words(words, count, expiry),
-    }
+    *out = [0u32; 514];
+    *place = at as u64;
+    number
 }
 
 // Whether a gap from a month to another is 1 to 999.

@@ -7,7 +7,7 @@ use mathlib.Core.List.{List, [], _∷_}
 use Prim.Native.Nat.{ℕ, _+_, _*_, _≤_, _<_}
 use native.Mathlib.Numerals.{add-one}
 use native.Mathlib.Omega.{arith}
-use lib.ListN.{length, getD, drop, drop-of-length-le}
+use lib.ListN.{length, getD, drop, set, drop-of-length-le}
 use lib.Arith.{lt-of-le-ne}
 use lib.Seq.{drop-cons}
 use lib.Dec.{eqb}
@@ -16,15 +16,20 @@ use types.Run.{OneOf}
 use denote.Enum.Declared.{tagOf}
 use Rattle.text.proofs.Gap as gap
 use Rattle.schedule.specs.declared.Schedule.{Schedule}
+use Rattle.schedule.specs.declared.Reading.{Reading}
 use Rattle.text.specs.declared.Cursor.{Cursor}
 use Rattle.text.specs.declared.Gap.{Gap}
 use Rattle.text.specs.declared.Gap.the-variants.{Months, Ended, Misplaced, Malformed}
+use Rattle.text.specs.declared.End.{End}
+use Rattle.text.specs.declared.End.the-variants.{Taken, Refusal}
 use Rattle.text.specs.declared.Mark.the-variants.{Leaps, Expires, Neither}
 use Rattle.schedule.specs.declared.Sign.{Sign}
-use Rattle.schedule.specs.Answers.{refusal, accepted, withLeap}
+use Rattle.schedule.specs.WordLayout.{wordOfSign, Kept}
+use Rattle.schedule.specs.Answers.{refusal, accepted, withLeap, HandsReading}
+use Rattle.schedule.proofs.Kept.{kept-leap, kept-end}
 use Rattle.text.specs.Bytes.{isDigit, digitOf, markOf}
 use Rattle.text.specs.Read.{mayFollow, readFrom}
-use Rattle.text.specs.Inner.{stopped, readingOf, Due, Scanned}
+use Rattle.text.specs.Inner.{stopped, Ends, Due, Scanned}
 
 module _ (bytes : List ℕ) (p : ℕ) where
   pub uncons : p < length bytes → drop p bytes ≡ getD bytes p 0 ∷ drop (p + 1) bytes
@@ -73,9 +78,14 @@ module _ (bytes : List ℕ) (g p t : ℕ) (s : Schedule) where
     unfolding readFrom
     follows m l n = rw (uncons bytes p h) (simp (due .no-digit h, nonzero, m, le-leb (t + g) 2400 l, uncons bytes (p + 1) n))
 
-    pub expires : markOf (getD bytes p 0) ≡ Expires → t + g ≤ 2400 → length bytes ≤ p + 1 → readFrom g p t s (drop p bytes) ≡ accepted s (t + g)
+    expires : markOf (getD bytes p 0) ≡ Expires → t + g ≤ 2400 → length bytes ≤ p + 1 → readFrom g p t s (drop p bytes) ≡ accepted s (t + g)
     unfolding readFrom
     expires m l n = rw (uncons bytes p h) (simp (due .no-digit h, nonzero, m, le-leb (t + g) 2400 l, drop-of-length-le bytes n))
+
+    -- a list that is taken stands in the words
+    pub takes : markOf (getD bytes p 0) ≡ Expires → t + g ≤ 2400 → length bytes ≤ p + 1
+        → (n : ℕ) (words : List ℕ) → Kept s n words → Ends (readFrom g p t s (drop p bytes)) Taken (set (set words 512 n) 513 (t + g))
+    takes m l e n words kept = rw (expires m l e) (kept-end s n words kept (t + g))
 
     module _ (k : Sign) (m : markOf (getD bytes p 0) ≡ Leaps k) where
       pub leap-late : 2400 < t + g → readFrom g p t s (drop p bytes) ≡ refusal 4 p
@@ -86,10 +96,16 @@ module _ (bytes : List ℕ) (g p t : ℕ) (s : Schedule) where
       unfolding readFrom
       leap-full l f = rw (uncons bytes p h) (simp (due .no-digit h, nonzero, m, le-leb (t + g) 2400 l, le-ltb (s .count) 256 f))
 
-      pub leaps : t + g ≤ 2400 → s .count < 256 → (s′ : Schedule) → s′ ≡ withLeap s (t + g) k
-          → readFrom g p t s (drop p bytes) ≡ readFrom 0 (p + 1) (t + g) s′ (drop (p + 1) bytes)
+      leaps : t + g ≤ 2400 → s .count < 256 → readFrom g p t s (drop p bytes) ≡ readFrom 0 (p + 1) (t + g) (withLeap s (t + g) k) (drop (p + 1) bytes)
       unfolding readFrom
-      leaps l f s′ e = rw (e, uncons bytes p h) (simp (due .no-digit h, nonzero, m, le-leb (t + g) 2400 l, lt-ltb (s .count) 256 f))
+      leaps l f = rw (uncons bytes p h) (simp (due .no-digit h, nonzero, m, le-leb (t + g) 2400 l, lt-ltb (s .count) 256 f))
+
+      -- a leap is stored in its place, and the reading goes on
+      pub keeps : t + g ≤ 2400 → (n : ℕ) (words : List ℕ) → n < 256 → Kept s n words → (w : ℕ) → w ≡ wordOfSign k → (r : End) (words′ : List ℕ)
+          → ((s′ : Schedule) → Kept s′ (n + 1) (set (set words (2 * n) (t + g)) (2 * n + 1) w) → Ends (readFrom 0 (p + 1) (t + g) s′ (drop (p + 1) bytes)) r words′)
+          → Ends (readFrom g p t s (drop p bytes)) r words′
+      keeps l n words f kept w e r words′ on =
+          rw (leaps l (omega (arith, kept .its-count))) (on (withLeap s (t + g) k) (kept-leap s n words kept f (t + g) k w e))
 
 -- what `scan_gap` found, where it is a gap
 pub found : (bytes : List ℕ) (p : ℕ) (r : Gap) (g : ℕ) (c : Cursor) → r ≡ Months g c → Scanned bytes p r → Scanned bytes p (Months g c)
@@ -97,8 +113,19 @@ found bytes p r g c e h = subst (λ (x : Gap). Scanned bytes p x) e h
 
 -- what `scan_gap` found, where it is no gap: the tag is not that of `Months`
 pub stops : (bytes : List ℕ) (p : ℕ) (r : Gap) → OneOf (1 ∷ 2 ∷ 3 ∷ []) (tagOf gap.the-type r) → Scanned bytes p r
-    → (words : List ℕ) (t : ℕ) (s : Schedule) → readFrom 0 p t s (drop p bytes) ≡ readingOf words (stopped r)
-stops bytes p (Months g c) k h words = absurd (⊎-elim (λ e. omega arith) (λ l. ⊎-elim (λ e. omega arith) (λ e. omega arith) l) k)
-stops bytes p (Ended c) k h words = h
-stops bytes p (Misplaced c) k h words = h
-stops bytes p (Malformed c) k h words = h
+    → (t : ℕ) (s : Schedule) (words : List ℕ) → Ends (readFrom 0 p t s (drop p bytes)) (stopped r) words
+stops bytes p (Months g c) k h t s words = absurd (⊎-elim (λ e. omega arith) (λ l. ⊎-elim (λ e. omega arith) (λ e. omega arith) l) k)
+stops bytes p (Ended c) k h t s words = h t s
+stops bytes p (Misplaced c) k h t s words = h t s
+stops bytes p (Malformed c) k h t s words = h t s
+
+-- a reading by how it ended
+module _ (reading : Reading) (e : End) (words : List ℕ) where
+  pub was-taken : e ≡ Taken → Ends reading e words → HandsReading reading 0 words 0
+  was-taken q h = subst (λ (x : End). Ends reading x words) q h
+
+  pub was-refused : (n p : ℕ) → e ≡ Refusal n p → Ends reading e words → (number place : ℕ) (out : List ℕ) → HandsReading (refusal n p) number out place
+      → HandsReading reading number out place
+  was-refused n p q h number place out hands =
+      let is : reading ≡ refusal n p = subst (λ (x : End). Ends reading x words) q h in
+      rw is hands

@@ -9,20 +9,19 @@ use Rattle.refusals.specs.Refusals.{endsEarly, notAllowed, badGap}
 use Rattle.schedule.specs.declared.Schedule.{Schedule}
 use Rattle.schedule.specs.declared.Reading.{Reading}
 use Rattle.schedule.specs.Schedule.{maxGap}
-use Rattle.schedule.specs.Words.{fromWords}
-use Rattle.schedule.specs.Answers.{refusal, accepted}
+use Rattle.schedule.specs.Answers.{refusal, HandsReading}
 use Rattle.text.specs.declared.Cursor.{Cursor}
 use Rattle.text.specs.declared.Gap.{Gap}
 use Rattle.text.specs.declared.Gap.the-variants.{Months, Ended, Misplaced, Malformed}
 use Rattle.text.specs.declared.End.{End}
-use Rattle.text.specs.declared.End.the-variants.{Expiry, Refusal}
+use Rattle.text.specs.declared.End.the-variants.{Taken, Refusal}
 use Rattle.text.specs.Bytes.{isDigit}
 use Rattle.text.specs.Read.{readFrom}
 
--- the reading that an end is, with the leaps kept as numbers
-abbrev pub readingOf : List ℕ → End → Reading
-readingOf words (Expiry n e) = accepted (fromWords words n 0) e
-readingOf words (Refusal n p) = refusal n p
+-- what an end says of the reading: a list that is taken stands in the words
+abbrev pub Ends : Reading → End → List ℕ → Type 0
+Ends reading Taken words = HandsReading reading 0 words 0
+Ends reading (Refusal n p) words = reading ≡ refusal n p
 
 -- the number and the place of each case in which no gap was read; a gap that is there is no refusal
 abbrev pub stopped : Gap → End

@@ -9,12 +9,13 @@ ghost use Prim.Native.Nat.{_+_, _≤_};
 ghost use lib.ListN.{length, drop};
 ghost use lib.Seq.{sets};
 ghost use Rattle.schedule.specs.Schedule.{wellFormed};
-ghost use Rattle.schedule.specs.Words.{fromWords};
-ghost use Rattle.schedule.specs.Answers.{writing, written};
+ghost use Rattle.schedule.specs.declared.Schedule.{Schedule};
+ghost use Rattle.schedule.specs.WordLayout.{Kept};
+ghost use Rattle.schedule.specs.Answers.{writing, written, HandsReading};
 ghost use Rattle.text.specs.Bytes.{isDigit, markOf, signByte};
 ghost use Rattle.text.specs.Read.{readFrom, readText};
 ghost use Rattle.text.specs.Write.{digits, marked, textOf};
-ghost use Rattle.text.specs.Inner.{stopped, readingOf, Scanned, Due};
+ghost use Rattle.text.specs.Inner.{stopped, Ends, Scanned, Due};
 
 struct Cursor {
     pub at: usize,
@@ -28,9 +29,9 @@ enum Gap {
     Malformed(Cursor),
 }
 
-// How the reading of a list ends: with its expiry, after a count of leaps, or with a refusal's number and its place.
+// How the reading of a list ends: it is taken, or refused with a number and a place.
 enum End {
-    Expiry(usize, u32),
+    Taken,
     Refusal(u8, usize),
 }
 
@@ -105,11 +106,11 @@ fn scan_gap(bytes: &[u8], from: Cursor) -> Gap
     Gap::Months(gap, Cursor { at })
 }
 
-// Reads on where a gap is due, `total` months and `count` leaps behind, each leap kept as a number in `words`. The schedule itself does not
-// go through the recursion: each level would copy it.
-fn read_gap(bytes: &[u8], from: Cursor, total: u32, count: usize, words: &mut [u16; 256]) -> End
-    requires { ⌜ (from .at ≤ length (now bytes)) × (total ≤ 2400) ⌝ }
-    ensures { λ r. ⌜ readFrom 0 (from .at) total (fromWords (now (words .entry)) count 0) (drop (from .at) (now (bytes .entry))) ≡ readingOf (now (words .exit)) r ⌝ }
+// Reads on where a gap is due, `total` months and `count` leaps behind, each leap stored in `words` as it is read. No schedule goes through
+// the recursion: each level would copy it.
+fn read_gap(bytes: &[u8], from: Cursor, total: u32, count: usize, words: &mut [u32; 514]) -> End
+    requires { ⌜ (from .at ≤ length (now bytes)) × (total ≤ 2400) × (count ≤ 256) ⌝ }
+    ensures { λ r. ⌜ ((s : Schedule) → Kept s count (now (words .entry)) → Ends (readFrom 0 (from .at) total s (drop (from .at) (now (bytes .entry)))) r (now (words .exit))) ⌝ }
 {
     let scanned = scan_gap(bytes, from);
     let Gap::Months(gap, next) = scanned else {
@@ -125,10 +126,10 @@ fn read_mark(
     gap: u32,
     total: u32,
     count: usize,
-    words: &mut [u16; 256],
+    words: &mut [u32; 514],
 ) -> End
-    requires { ⌜ Due (now bytes) (from .at) gap × (total ≤ 2400) ⌝ }
-    ensures { λ r. ⌜ readFrom gap (from .at) total (fromWords (now (words .entry)) count 0) (drop (from .at) (now (bytes .entry))) ≡ readingOf (now (words .exit)) r ⌝ }
+    requires { ⌜ Due (now bytes) (from .at) gap × (total ≤ 2400) × (count ≤ 256) ⌝ }
+    ensures { λ r. ⌜ ((s : Schedule) → Kept s count (now (words .entry)) → Ends (readFrom gap (from .at) total s (drop (from .at) (now (bytes .entry)))) r (now (words .exit))) ⌝ }
 {
     let at = from.at;
     if at == bytes.len() {
@@ -146,7 +147,9 @@ fn read_mark(
             if after < bytes.len() {
                 return End::Refusal(refusals::AFTER_END, after);
             }
-            End::Expiry(count, months)
+            words[512] = count as u32;
+            words[513] = months;
+            End::Taken
         }
         Mark::Leaps(sign) => {
             if schedule::LAST_MONTH < months {
@@ -155,9 +158,25 @@ fn read_mark(
             if schedule::MAX_LEAPS <= count {
                 return End::Refusal(refusals::TOO_MANY_LEAPS, at);
             }
-            words[count] = schedule::leap_word(months, sign);
+            words[2 * count] = months;
+            words[2 * count + 1] = schedule::word_of_sign(sign);
             read_gap(bytes, Cursor { at: after }, months, count + 1, words)
         }
+    }
+}
+
+// Reads a compact text list into the words of its schedule; any bytes may be given.
+pub fn read_words(bytes: &[u8], out: &mut [u32; 514], place: &mut u64) -> u8
+    ensures { λ n. ⌜ HandsReading (readText (now (bytes .entry))) n (now (out .exit)) (now (place .exit)) ⌝ }
+{
+    *out = [0u32; 514];
+    let end = read_gap(bytes, Cursor { at: 0 }, 0, 0, out);
+    match end {
+        End::Taken => {
+            *place = 0;
+            0
+        }
+        End::Refusal(number, at) => schedule::hand_refusal(number, at, out, place),
     }
 }
 
@@ -165,11 +184,13 @@ fn read_mark(
 pub fn read_text(bytes: &[u8]) -> Reading
     ensures { λ r. ⌜ r ≡ readText (now (bytes .entry)) ⌝ }
 {
-    let mut words = [0u16; 256];
-    let end = read_gap(bytes, Cursor { at: 0 }, 0, 0, &mut words);
-    match end {
-        End::Expiry(count, expiry) => schedule::accept(words, count, expiry),
-        End::Refusal(number, place) => schedule::refuse(number, place),
+    let mut words = [0u32; 514];
+    let mut place: u64 = 0;
+    let number = read_words(bytes, &mut words, &mut place);
+    Reading {
+        number,
+        place: place as usize,
+        schedule: schedule::of_words(&words),
     }
 }
 

@@ -12,4 +12,4 @@ leap-write-nybbles-spec =
     (λ c κs. search needs)
     (λ c κs. search needs)
     (λ c. search needs)
-    (λ c. hands-writing nybblesOf _ _ (c .before .before .before .before .schedule-of .ensures) _ _ (c .before .before .write-nybbles .result) (c .before .before .write-nybbles .ensures)))
+    (λ c. hands-writing nybblesOf _ _ (c .before .before .before .before .of-words .ensures) _ _ (c .before .before .write-nybbles .result) (c .before .before .write-nybbles .ensures)))

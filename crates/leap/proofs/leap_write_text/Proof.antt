@@ -12,4 +12,4 @@ leap-write-text-spec =
     (λ c κs. search needs)
     (λ c κs. search needs)
     (λ c. search needs)
-    (λ c. hands-writing textOf _ _ (c .before .before .before .before .schedule-of .ensures) _ _ (c .before .before .write-text .result) (c .before .before .write-text .ensures)))
+    (λ c. hands-writing textOf _ _ (c .before .before .before .before .of-words .ensures) _ _ (c .before .before .write-text .result) (c .before .before .write-text .ensures)))

@@ -3,12 +3,10 @@
 -- Each answer is the law of `readFrom` (proofs/Laws.antt) for the tests that led there. Assumes nothing.
 use borrow.Author.Needs.{needs}
 use native.Mathlib.Omega.{arith}
-use mathlib.Core.Path.{_≡_, sym, _∙_, ap}
+use mathlib.Core.Path.{sym, _∙_}
 use lib.Arith.{lt-of-le-ne}
 use lib.ListN.{length}
 use Prim.Native.Nat.{ℕ, _≤_, _<_, _+_, _-_}
-use Rattle.schedule.proofs.Words.{with-word}
-use Rattle.text.specs.Inner.{readingOf}
 use Rattle.text.proofs.Laws as laws
 use borrow.Fn.Kinds.{In}
 use borrow.Fn.PlainCycle.{Measures, is, falls, and}
@@ -18,7 +16,7 @@ use Rattle.text.proofs.+read_gap+read_mark.Lts-read_gap as read-gap-lts
 use Rattle.text.proofs.read_mark.Reads as read-mark
 use Rattle.text.proofs.read_mark.Kinds as read-mark-kinds
 use Rattle.text.proofs.+read_gap+read_mark.Lts-read_mark as read-mark-lts
-use Rattle.schedule.proofs.leap_word.Reads as leap-word-reads
+use Rattle.schedule.proofs.word_of_sign.Reads as word-of-sign-reads
 use Rattle.text.proofs.mark_of.Reads as mark-of-reads
 use Rattle.text.proofs.scan_gap.Reads as scan-gap-reads
 use Rattle.text.proofs.stop.Reads as stop-reads
@@ -54,17 +52,18 @@ pub +read-gap+read-mark-spec : {M : Type 1} → statement M
     -- stop-requires
     (λ c κs. search needs)
     -- returns
-    (λ c. let at = c .before .before in
-    rw (c .stop .ensures) (laws.stops _ _ (at .scan-gap .result) (c .before .match .keys2) (at .scan-gap .ensures) (at .before .before .args .words .now) _ _))
+    (λ c s k. let at = c .before .before in
+    rw (c .stop .ensures) (laws.stops _ _ (at .scan-gap .result) (c .before .match .keys2) (at .scan-gap .ensures) _ s _))
     -- read-mark-requires
     (λ c κs. let gap = laws.found _ _ _ _ _ (c .before .before .scanned .given .1) (c .before .before .before .before .scan-gap .ensures) in
-    (omega (arith, gap .0, gap .1 .0 .inside), (gap .1 .0, search needs)))
+    (omega (arith, gap .0, gap .1 .0 .inside), (gap .1 .0, search needs, search needs)))
     -- returns-2
-    (λ c. laws.found _ _ _ _ _ (c .before .before .before .scanned .given .1) (c .before .before .before .before .before .scan-gap .ensures) .1 .1 _ _ ∙ c .read-mark .ensures))
+    (λ c s k. let gap = laws.found _ _ _ _ _ (c .before .before .before .scanned .given .1) (c .before .before .before .before .before .scan-gap .ensures) in
+    rw (gap .1 .1 _ s) (c .read-mark .ensures s k)))
     (λ t. read-mark-lts.spec
-    (mark-of-reads.Asked, mark-of-reads.Learnt, leap-word-reads.Asked, leap-word-reads.Learnt, read-gap-below t, read-gap.Post) (read-mark-at t) read-mark.Post
+    (mark-of-reads.Asked, mark-of-reads.Learnt, word-of-sign-reads.Asked, word-of-sign-reads.Learnt, read-gap-below t, read-gap.Post) (read-mark-at t) read-mark.Post
     -- returns
-    (λ c. laws.ends _ _ _ _ _ (omega arith))
+    (λ c s k. laws.ends _ _ _ _ s (omega arith))
     -- shared-slice-read-mark-of
     (λ c. search needs)
     -- mark-of-requires
@@ -78,38 +77,54 @@ pub +read-gap+read-mark-spec : {M : Type 1} → statement M
     -- enum-told-2
     (λ c. search needs)
     -- returns-2
-    (λ c. let at = c .before .before .before in
-    laws.expires-late _ _ _ _ _ (at .before .before .before .before .pre .1 .0) (at .before .before .if1 .left) (sym (at .mark-of .ensures) ∙ c .before .enum-told2 .given .1) (c .if2 .taken))
+    (λ c s k. let at = c .before .before .before in
+    laws.expires-late _ _ _ _ s (at .before .before .before .before .pre .1 .0) (at .before .before .if1 .left) (sym (at .mark-of .ensures) ∙ c .before .enum-told2 .given .1) (c .if2 .taken))
     -- returns-3
-    (λ c. let at = c .before .before .before .before in
-    laws.follows _ _ _ _ _ (at .before .before .before .before .pre .1 .0) (at .before .before .if1 .left) (sym (at .mark-of .ensures) ∙ c .before .before .enum-told2 .given .1) (c .before .if2 .left) (c .if3 .taken))
+    (λ c s k. let at = c .before .before .before .before in
+    laws.follows _ _ _ _ s (at .before .before .before .before .pre .1 .0) (at .before .before .if1 .left) (sym (at .mark-of .ensures) ∙ c .before .before .enum-told2 .given .1) (c .before .if2 .left) (c .if3 .taken))
+    -- cast-words
+    (λ c. search needs)
+    -- element-write-words
+    (λ c. search needs)
+    -- element-write-words-2
+    (λ c. search needs)
     -- enum-known-m
     (λ c. search needs)
     -- returns-4
-    (λ c. let at = c .before .before .before .before in
-    laws.leap-late _ _ _ _ _ (at .before .before .before .before .pre .1 .0) (at .before .before .if1 .left) _ (sym (at .mark-of .ensures) ∙ c .before .before .m .given .1) (c .if4 .taken))
+    (λ c s k. let at = c .before .before .before .before in
+    laws.leap-late _ _ _ _ s (at .before .before .before .before .pre .1 .0) (at .before .before .if1 .left) _ (sym (at .mark-of .ensures) ∙ c .before .before .m .given .1) (c .if4 .taken))
     -- returns-5
-    (λ c. let at = c .before .before .before .before .before in
+    (λ c s k. let at = c .before .before .before .before .before in
     let full : 256 ≤ at .before .before .before .before .args .count = omega arith in
-    laws.leap-full _ _ _ _ _ (at .before .before .before .before .pre .1 .0) (at .before .before .if1 .left) _ (sym (at .mark-of .ensures) ∙ c .before .before .before .m .given .1) (c .before .if4 .left) full)
-    -- leap-word-requires
-    (λ c κs. search needs)
+    laws.leap-full _ _ _ _ s (at .before .before .before .before .pre .1 .0) (at .before .before .if1 .left) _ (sym (at .mark-of .ensures) ∙ c .before .before .before .m .given .1) (c .before .if4 .left) (omega (arith, k .its-count)))
     -- mul-words
     (λ c. search needs)
-    -- element-write-words
+    -- mul-words-2
+    (λ c. search needs)
+    -- element-write-words-3
+    (λ c. search needs)
+    -- word-of-sign-requires
+    (λ c κs. search needs)
+    -- mul-words-3
+    (λ c. search needs)
+    -- add-words
+    (λ c. search needs)
+    -- mul-words-4
+    (λ c. search needs)
+    -- element-write-words-4
     (λ c. search needs)
     -- add-read-gap
     (λ c. search needs)
     -- read-gap-requires
     (λ c κs. let at = c .before .before .before .before .before .before .before in
     let h = lt-of-le-ne (at .before .before .before .before .pre .1 .0 .inside) (at .before .before .if1 .left) in
-    (omega (arith, h), (omega (arith, h), c .before .before .before .if4 .left)))
+    (omega (arith, h), (omega (arith, h), c .before .before .before .if4 .left, search needs)))
     -- returns-6
-    (λ c. let at = c .before .before in
-    laws.unmarked _ _ _ _ _ (at .before .before .before .before .pre .1 .0) (at .before .before .if1 .left) (sym (at .mark-of .ensures) ∙ c .enum-told .given .1))
+    (λ c s k. let at = c .before .before in
+    laws.unmarked _ _ _ _ s (at .before .before .before .before .pre .1 .0) (at .before .before .if1 .left) (sym (at .mark-of .ensures) ∙ c .enum-told .given .1))
     -- returns-7
-    (λ c. let at = c .before .before .before .before in
-    laws.expires _ _ _ _ _ (at .before .before .before .before .pre .1 .0) (at .before .before .if1 .left) (sym (at .mark-of .ensures) ∙ c .before .before .enum-told2 .given .1) (c .before .if2 .left) (c .if3 .left))
+    (λ c s k. let at = c .before .before .before .before in
+    laws.takes _ _ _ _ s (at .before .before .before .before .pre .1 .0) (at .before .before .if1 .left) (sym (at .mark-of .ensures) ∙ c .before .before .enum-told2 .given .1) (c .before .if2 .left) (c .if3 .left) _ _ k)
     -- returns-8
-    (λ c. let at = c .before .before .before .before .before .before .before .before in
-    laws.leaps _ _ _ _ _ (at .before .before .before .before .pre .1 .0) (at .before .before .if1 .left) _ (sym (at .mark-of .ensures) ∙ c .before .before .before .before .before .before .m .given .1) (c .before .before .before .before .if4 .left) (c .before .before .before .if5 .left) _ (with-word (at .before .before .before .before .args .words .now) _ _ _ _ (c .before .before .before .before .if4 .left) (c .before .before .leap-word .ensures)) ∙ c .read-gap .ensures))
+    (λ c s k. let at = c .before .before .before .before .before .before .before .before in
+    laws.keeps _ _ _ _ s (at .before .before .before .before .pre .1 .0) (at .before .before .if1 .left) _ (sym (at .mark-of .ensures) ∙ c .before .before .before .before .before .before .m .given .1) (c .before .before .before .before .if4 .left) _ (at .before .before .before .before .args .words .now) (c .before .before .before .if5 .left) k _ (c .before .before .word-of-sign .ensures) (c .read-gap .result) _ (c .read-gap .ensures)))

@@ -9,8 +9,8 @@ use Rattle.nybbles.proofs.progress.after_code.Tie as tie
 -- the place of a leap
 room : tie.Need-element-write-words
 room c =
-    let start = c .before .before .before .before .before .before .before .before in
-    omega (arith, reading.leap-room _ _ _ (c .before .before .mark .given .1) (start .pre .room))
+    let start = c .before .before .before .before .before .before .before in
+    omega (arith, reading.leap-room _ _ _ (c .before .mark .given .1) (start .pre .room))
 
 pub after-code-spec : {M : Type 1} → statement M
 unfolding after
@@ -21,12 +21,17 @@ after-code-spec =
     (λ c. search needs)
     (λ c. search needs)
     (λ c. search needs)
-    (λ c κs. search needs)
+    (λ c. let inside = room c in omega arith)
     (λ c. let inside = room c in omega arith)
     room
-    (λ c. let inside = room c in omega arith)
+    (λ c κs. search needs)
+    (λ c. let inside = room (c .before) in omega arith)
+    (λ c. let inside = room (c .before) in omega arith)
+    (λ c. let inside = room (c .before) in omega arith)
+    (λ c. let inside = room (c .before) in omega arith)
+    (λ c. let inside = room (c .before) in omega arith)
     (λ c. search needs)
-    (λ c. record { state = simp (c .enum-told .given .1) })
-    (λ c. let start = c .before .before .before .before .before .before .before .before in
-    reading.leap-after _ _ _ _ _ (c .before .before .mark .given .1) (start .pre .total) (c .leap-word .ensures))
-    (λ c. record { state = simp (c .enum-told2 .given .1) }))
+    (λ c s kept. record { state = simp (c .enum-told .given .1); kept = simp (c .enum-told .given .1) kept; few = λ h. h })
+    (λ c s kept. let start = c .before .before .before .before .before .before .before .before in
+    reading.leap-after _ _ _ _ _ (c .before .before .mark .given .1) (reading.leap-room _ _ _ (c .before .before .mark .given .1) (start .pre .room)) (c .word-of-sign .ensures) s kept)
+    (λ c s kept. record { state = simp (c .enum-told2 .given .1); kept = simp (c .enum-told2 .given .1) kept; few = λ h. h }))

@@ -1,7 +1,9 @@
 -- `progress::fault_of` meets its contract: one answer for each check that fails, and one where all pass. Assumes nothing.
-use mathlib.Core.Path.{sym, _∙_}
+use mathlib.Core.Path.{_≡_, sym, _∙_}
+use mathlib.Core.Bool.{true, false}
 use native.Mathlib.Omega.{arith}
 use borrow.Author.Needs.{needs}
+use Rattle.nybbles.specs.Read.{hasRoom}
 use Rattle.nybbles.specs.Inner.{stateOf}
 use Rattle.nybbles.proofs.Reading as reading
 use Rattle.nybbles.proofs.progress.fault_of.Statement.{statement}
@@ -12,11 +14,15 @@ fault-of-spec =
     tie.close
     (tie.spec
     (λ c. search needs)
-    (λ c ws. let args = c .before .before .before .args in reading.gap-fault (stateOf (args .p) ws) (args .c) (omega arith))
+    (λ c s e. let args = c .before .before .before .args in reading.gap-fault (stateOf (args .p) s) (args .c) (omega arith))
     (λ c. search needs)
-    (λ c ws. reading.total-fault _ _ (c .before .before .before .if1 .left) (c .if2 .taken))
+    (λ c s e. let args = c .before .before .before .before .before .before .args in reading.total-fault (stateOf (args .p) s) (args .c) (c .before .before .before .if1 .left) (c .if2 .taken))
     (λ c κs. search needs)
-    (λ c ws. let over = c .before .before in
-    reading.no-fault _ _ (over .before .before .before .if1 .left) (over .if2 .left) (sym (c .before .has-room .ensures) ∙ c .if3 .taken))
-    (λ c ws. let over = c .before .before in
-    reading.room-fault _ _ (over .before .before .before .if1 .left) (over .if2 .left) (sym (c .before .has-room .ensures) ∙ c .if3 .left)))
+    (λ c s e. let over = c .before .before in
+    let args = over .before .before .before .before .before .before .args in
+    let room : hasRoom (args .c .mark) (s .count) ≡ true = rw e (sym (c .before .has-room .ensures) ∙ c .if3 .taken) in
+    reading.no-fault (stateOf (args .p) s) (args .c) (over .before .before .before .if1 .left) (over .if2 .left) room)
+    (λ c s e. let over = c .before .before in
+    let args = over .before .before .before .before .before .before .args in
+    let full : hasRoom (args .c .mark) (s .count) ≡ false = rw e (sym (c .before .has-room .ensures) ∙ c .if3 .left) in
+    reading.room-fault (stateOf (args .p) s) (args .c) (over .before .before .before .if1 .left) (over .if2 .left) full))

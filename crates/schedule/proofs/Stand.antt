@@ -1,22 +1,26 @@
--- The words of a schedule stand for it: what a reader hands to C means the schedule that was read.
+-- The words of a schedule stand for it: what a reader hands over means the schedule that was read.
 -- Assumes nothing.
-use mathlib.Core.Path.{_≡_, refl, sym, ap, _∙_}
+use mathlib.Core.Path.{_≡_, refl, ap, _∙_}
 use mathlib.Core.Bool.{true}
 use mathlib.Core.List.{List, [], _∷_, _++_}
 use Prim.Native.Nat.{ℕ, zero, suc, _+_, _*_, _≤_, _<_}
 use native.Mathlib.Nat.{not-suc-le-zero, le-of-suc-le-suc}
 use native.Mathlib.Omega.{arith}
-use lib.ListN.{length, getD, take}
+use lib.Dec.{eqb}
+use lib.ListN.{length, getD, take, replicate}
 use lib.Seq.{take-suc, take-all}
-use borrow.Author.Tests.{lt-ltb}
+use borrow.Author.Tests.{lt-ltb, eqb-true, eqb-false}
 use Rattle.schedule.specs.declared.Sign.{Sign}
 use Rattle.schedule.specs.declared.Sign.the-variants.{Positive, Negative}
 use Rattle.schedule.specs.declared.Leap.{Leap}
 use Rattle.schedule.specs.declared.Schedule.{Schedule}
-use Rattle.schedule.specs.Schedule.{noLeap, wellFormed}
+use Rattle.schedule.specs.declared.Reading.{Reading}
+use Rattle.schedule.specs.Schedule.{noLeap, blankSchedule, wellFormed}
+use Rattle.schedule.specs.WordLayout.{signOf, leapAt, leapsAt, standForLeaps, meant, wordOfSign, leapWords, wordsOf}
+use Rattle.schedule.specs.Answers.{HandsReading}
+use Rattle.schedule.proofs.Cases.{by-bool}
+use Rattle.schedule.proofs.Sound.{Formed}
 use Rattle.schedule.proofs.WordLayout.{small-month}
-use Rattle.schedule.specs.WordLayout.{monthWord, signWord, signOf, leapAt, leapsAt, standForLeaps, meant, wordOfSign, leapWords, wordsOf}
-use Rattle.leap.proofs.Meant.{words-length}
 
 sign-back : (g : Sign) → signOf (wordOfSign g) ≡ g
 sign-back Positive = refl
@@ -51,7 +55,7 @@ module _ (rest : List ℕ) where
       let m : n ≡ suc (suc (2 * length ls + k)) = omega arith in
       rw m (after-leaps ls k (2 * length ls + k) refl)
 
-module _ (s : Schedule) (full : length (s .leaps) ≡ 256) (w : wellFormed s ≡ true) where
+module _ (s : Schedule) (full : length (s .leaps) ≡ 256) (small : (i : ℕ) → getD (s .leaps) i noLeap .month < 65_536) where
   end : List ℕ
   end = s .count ∷ s .expiry ∷ []
 
@@ -69,16 +73,36 @@ module _ (s : Schedule) (full : length (s .leaps) ≡ 256) (w : wellFormed s ≡
   unfolding standForLeaps
   all-stand zero h = refl
   all-stand (suc n) h =
-      let m = small-month s full w n in
       let g = sign-small (getD (s .leaps) n noLeap .sign) in
       rw (month-at end (s .leaps) n (omega arith), sign-at end (s .leaps) n (omega arith))
-      (simp (all-stand n (omega arith), lt-ltb (getD (s .leaps) n noLeap .month) 65_536 (omega arith), lt-ltb (wordOfSign (getD (s .leaps) n noLeap .sign)) 2 g))
+      (simp (all-stand n (omega arith), lt-ltb (getD (s .leaps) n noLeap .month) 65_536 (small n), lt-ltb (wordOfSign (getD (s .leaps) n noLeap .sign)) 2 g))
 
-  -- the words of a well-formed schedule stand for it
-  pub words-stand : meant (wordsOf s) ≡ s
+  -- the words of a schedule whose months fit stand for it
+  small-stand : meant (wordsOf s) ≡ s
   unfolding meant wordsOf end
-  words-stand =
+  small-stand =
       let leaps : leapsAt (leapWords (s .leaps) ++ end) 256 ≡ s .leaps = same-leaps 256 (omega arith) ∙ take-all 256 (s .leaps) (omega arith) in
       let n = after-leaps end (s .leaps) 0 512 (omega arith) in
       let e = after-leaps end (s .leaps) 1 513 (omega arith) in
       rw (all-stand 256 (omega arith), leaps, n, e)
+
+blank-month : (n i : ℕ) → getD (replicate n noLeap) i noLeap .month ≡ 0
+blank-month zero i = refl
+blank-month (suc n) zero = refl
+blank-month (suc n) (suc i) = blank-month n i
+
+-- those of the blank schedule do
+pub blank-stands : meant (wordsOf blankSchedule) ≡ blankSchedule
+blank-stands = small-stand blankSchedule refl (λ i. omega (arith, blank-month 256 i))
+
+-- the words of a well-formed schedule stand for it
+pub words-stand : (s : Schedule) → length (s .leaps) ≡ 256 → wellFormed s ≡ true → meant (wordsOf s) ≡ s
+words-stand s full w = small-stand s full (λ i. omega (arith, small-month s full w i))
+
+-- the words that a reader hands over mean the reading's schedule, refused or not
+pub hands-meant : (r : Reading) → Formed r → (n p : ℕ) (words : List ℕ) → HandsReading r n words p → record { number = n; place = p; schedule = meant words } ≡ r
+hands-meant r f n p words h =
+    let same : meant (wordsOf (r .schedule)) ≡ r .schedule =
+    by-bool (eqb (r .number) 0) (λ t. words-stand (r .schedule) (f .full) (f .formed (eqb-true (r .number) 0 t)))
+    (λ t. let b = f .blank (eqb-false (r .number) 0 t) in rw b blank-stands) in
+    rw (h .its-number, h .its-words, h .its-place, same)
