@@ -1,4 +1,4 @@
-// A schedule of leap seconds, by value, and what readers and writers of it answer.
+// A schedule of leap seconds, by value and as the words of the C struct, and what readers and writers of it answer.
 ghost use mathlib.Core.Path.{_≡_};
 ghost use mathlib.Core.Bool.{true, _&&_};
 ghost use Prim.Native.Nat.{_≤_};
