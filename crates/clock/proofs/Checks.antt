@@ -1,6 +1,6 @@
 -- The checks of a question: what each says when it is passed, and that they do not look at the value asked for.
 -- Assumes nothing.
-use mathlib.Core.Bool.{Bool, true, false, not, _&&_, _||_, and-eq-true-iff, true≢false}
+use mathlib.Core.Bool.{Bool, true, false, not, _&&_, _||_, and-eq-true-iff}
 use mathlib.Core.Logic.{_⊎_, inl, inr}
 use mathlib.Core.Path.{_≡_, refl, sym, _∙_}
 use Prim.Native.Nat.{ℕ, zero, suc, _≤_, _<_}
@@ -68,9 +68,6 @@ passed {a} {b} e h = sym e ∙ not-false b h
 
 pub failed : {a b : Bool} → b ≡ a → not b ≡ true → a ≡ false
 failed {a} {b} e h = sym e ∙ not-true b h
-
-pub not-well-formed : {b : Bool} → b ≡ false → b ≡ true → ⊥
-not-well-formed e h = true≢false (sym h ∙ e)
 
 -- a check that was passed, and what was asked after it
 pub required : {A : Type 0} {a : Answer A} {v : A} (b : Bool) (n : ℕ) → require b n a ≡ given v → (b ≡ true) × (a ≡ given v)

@@ -1,6 +1,6 @@
 -- Leaps in their order: how many are in effect on a day tells the tallies of the day, and those of the next.
 -- Assumes nothing.
-use mathlib.Core.Bool.{true, _&&_, and-true}
+use mathlib.Core.Bool.{true, and-true}
 use mathlib.Core.List.{List, [], _∷_, _++_}
 use mathlib.Core.Logic.{⊎-elim}
 use mathlib.Core.Path.{_≡_, refl, sym, ap, _∙_}
@@ -12,7 +12,7 @@ use native.Mathlib.Omega.{arith}
 use lib.ListN.{length, getD, take}
 use lib.Seq.{take-nil, take-suc, length-take-le}
 use borrow.Author.Tests.{le-leb}
-use Rattle.calendar.specs.Calendar.{firstDay, monthStart, InMonth}
+use Rattle.calendar.specs.Calendar.{monthStart, InMonth}
 use Rattle.calendar.proofs.Laws.{start-zero, start-from, start-lt, start-le}
 use Rattle.schedule.specs.declared.Sign.{Sign}
 use Rattle.schedule.specs.declared.Sign.the-variants.{Positive, Negative}

@@ -1,36 +1,33 @@
 -- What one look at a schedule finds, place by place, and what it says of a day.
 -- Assumes nothing.
-use mathlib.Core.Bool.{Bool, true, false, _&&_, and-assoc, and-true, and-false, true≢false}
-use mathlib.Core.List.{List, [], _∷_}
+use mathlib.Core.Bool.{Bool, true, false, _&&_, and-true, true≢false}
+use mathlib.Core.List.{_∷_}
 use mathlib.Core.Path.{_≡_, refl, sym, ap, _∙_}
 use Prim.Native.Nat.{ℕ, zero, suc, _+_, _-_, _*_, _%_, _≤_, _<_}
 use native.Mathlib.Numerals.{add-one}
 use native.Mathlib.Decide.{decLt}
 use native.Mathlib.Omega.{arith}
-use lib.Dec.{leb, eqb}
-use lib.ListN.{length, drop, getD, drop-of-length-le}
+use lib.Dec.{eqb}
+use lib.ListN.{length, drop, getD}
 use lib.Seq.{drop-cons}
 use borrow.Author.Tests.{le-leb, lt-leb, lt-ltb, le-ltb, eq-eqb, ne-eqb}
-use Rattle.calendar.specs.Calendar.{firstDay, lastMonth, endDay, monthStart, InMonth, monthAt}
+use Rattle.calendar.specs.Calendar.{lastMonth, endDay, monthAt}
 use Rattle.calendar.specs.declared.Lookup.{Lookup}
-use Rattle.calendar.proofs.Laws.{started, not-started, in-month, month-below, at-given, answered, early, late, given}
-use Rattle.schedule.specs.declared.Sign.{Sign}
+use Rattle.calendar.proofs.Laws.{in-month, at-given}
 use Rattle.schedule.specs.declared.Sign.the-variants.{Positive, Negative}
-use Rattle.schedule.specs.declared.Leap.{Leap}
 use Rattle.schedule.specs.declared.Schedule.{Schedule}
 use Rattle.schedule.specs.Schedule.{maxLeaps, maxGap, noLeap, leapsOf, gapFits, gapsFit, isUnused, allUnused, wellFormed}
-use Rattle.schedule.specs.Extends.{sameSign}
 use Rattle.schedule.proofs.Formed.{in-use, used, gap-last, unused-last}
 use Rattle.schedule.proofs.Gaps.{fits-lt, fits-le}
 use Rattle.clock.specs.declared.days.Ending.{Ending}
 use Rattle.clock.specs.declared.days.Ending.the-variants.{Ordinary, Inserted, Deleted}
 use Rattle.clock.specs.declared.look.Survey.{Survey}
 use Rattle.clock.specs.declared.days.Day.{Day}
-use Rattle.clock.specs.Days.{count, tally, ending}
+use Rattle.clock.specs.Days.{count, ending}
 use Rattle.clock.specs.Known.{lastDay, knownTo, known}
-use Rattle.clock.specs.Inner.{greatMonth, Surveyed, SurveyedOn, endingBy, dayOn, ListFor, DayFor, nearDay}
+use Rattle.clock.specs.Inner.{greatMonth, Surveyed, SurveyedOn, endingBy, ListFor, DayFor, nearDay}
 use Rattle.clock.proofs.Leaps.{part}
-use Rattle.clock.proofs.Tai.{count-small, last-inside, tally-after}
+use Rattle.clock.proofs.Tai.{last-inside, tally-after}
 
 -- ---- counting faults
 

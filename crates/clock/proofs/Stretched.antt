@@ -12,7 +12,7 @@ use native.Mathlib.Omega.{arith}
 use lib.Dec.{eqb}
 use lib.ListN.{length, getD}
 use borrow.Author.Tests.{eqb-true, eqb-false}
-use Rattle.calendar.specs.Calendar.{firstDay, endDay, monthStart}
+use Rattle.calendar.specs.Calendar.{endDay, monthStart}
 use Rattle.calendar.proofs.Laws.{start-lt}
 use Rattle.schedule.specs.declared.Sign.the-variants.{Positive, Negative}
 use Rattle.schedule.specs.declared.Schedule.{Schedule}
@@ -22,7 +22,7 @@ use Rattle.schedule.proofs.Gaps.{parts}
 use Rattle.clock.specs.declared.look.Survey.{Survey}
 use Rattle.clock.specs.declared.days.Day.{Day}
 use Rattle.clock.specs.Known.{lastDay}
-use Rattle.clock.specs.Inner.{TalliedOn, SurveyedOn, ListFor, DayFor, far, Starts, Tallies, Stretch, Prepared}
+use Rattle.clock.specs.Inner.{TalliedOn, SurveyedOn, ListFor, DayFor, Starts, Tallies, Stretch, Prepared}
 use Rattle.clock.proofs.Placed.{leapMonth, in-order, Placed, placed-same, placed-next, tallied-by}
 
 -- ---- by the days on which the leaps of a well-formed schedule take effect

@@ -1,7 +1,7 @@
 -- The months of a well-formed schedule, and when words stand for the schedule that they lay out.
 -- Assumes nothing.
 use mathlib.Core.Path.{_≡_, refl, sym, ap, _∙_}
-use mathlib.Core.Bool.{Bool, true, false, cond, _&&_, and-eq-true-iff, and-false, true≢false}
+use mathlib.Core.Bool.{Bool, true, false, _&&_, and-eq-true-iff, and-false, true≢false}
 use mathlib.Core.Logic.{⊎-elim}
 use mathlib.Core.List.{List, [], _∷_, _++_}
 use Prim.Native.Nat.{ℕ, zero, suc, _+_, _-_, _≤_, _<_}
@@ -9,11 +9,9 @@ use native.Mathlib.Nat.{not-suc-le-zero, le-of-suc-le-suc, eq-or-lt-of-le}
 use native.Mathlib.Numerals.{add-one}
 use native.Mathlib.Omega.{arith}
 use lib.Dec.{ltb, eqb}
-use lib.ListN.{length, getD, take, drop, length-append}
+use lib.ListN.{length, getD, drop, length-append}
 use lib.Seq.{getD-take, getD-drop, length-take-le, take-at, getD-at}
 use borrow.Author.Tests.{ltb-true, ltb-false, lt-ltb, eqb-true}
-use Rattle.schedule.specs.declared.Sign.{Sign}
-use Rattle.schedule.specs.declared.Sign.the-variants.{Positive, Negative}
 use Rattle.schedule.specs.declared.Leap.{Leap}
 use Rattle.schedule.specs.declared.Schedule.{Schedule}
 use Rattle.schedule.specs.Schedule.{maxLeaps, noLeap, blankSchedule, leapsOf, gapsFit, isPositive, isUnused, allUnused, wellFormed}

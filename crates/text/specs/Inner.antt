@@ -10,7 +10,6 @@ use Rattle.schedule.specs.declared.Schedule.{Schedule}
 use Rattle.schedule.specs.declared.Reading.{Reading}
 use Rattle.schedule.specs.Schedule.{maxGap}
 use Rattle.schedule.specs.Answers.{refusal, HandsReading}
-use Rattle.text.specs.declared.Cursor.{Cursor}
 use Rattle.text.specs.declared.Gap.{Gap}
 use Rattle.text.specs.declared.Gap.the-variants.{Months, Ended, Misplaced, Malformed}
 use Rattle.text.specs.declared.End.{End}

@@ -1,14 +1,13 @@
 -- `clock::inplace::leaps_by` meets its contract: the leaps from n on lie after the month. Assumes nothing.
-use mathlib.Core.Path.{_≡_, sym, ap, _∙_}
-use Prim.Native.Nat.{_-_, _≤_, _<_}
+use mathlib.Core.Path.{sym, ap, _∙_}
+use Prim.Native.Nat.{_-_, _<_}
 use native.Mathlib.Omega.{arith}
-use lib.ListN.{length, getD}
 use borrow.Author.Needs.{needs}
 use Rattle.schedule.specs.Schedule.{leapsOf}
 use Rattle.schedule.specs.WordLayout.{countWord, meant}
 use Rattle.schedule.proofs.Gaps.{parts}
 use Rattle.clock.proofs.LaidOut.{count-meant, count-room, full-meant, leap-meant}
-use Rattle.clock.proofs.Placed.{leapMonth, Beyond, beyond-none, beyond-one, beyond-found, beyond-all}
+use Rattle.clock.proofs.Placed.{Beyond, beyond-none, beyond-one, beyond-found, beyond-all}
 use Rattle.clock.proofs.inplace.leaps_by.Statement.{statement}
 use Rattle.clock.proofs.inplace.leaps_by.Tie as tie
 

@@ -1,13 +1,12 @@
 -- `clock::inplace::look_at` meets its contract. Assumes nothing.
-use mathlib.Core.Path.{_≡_, sym, ap, _∙_}
-use mathlib.Core.Bool.{true}
+use mathlib.Core.Path.{sym, ap, _∙_}
 use Prim.Native.Nat.{_≤_, _<_}
 use native.Mathlib.Omega.{arith}
 use lib.ListN.{length}
 use borrow.Author.Needs.{needs}
 use Rattle.schedule.specs.declared.Sign.{Sign}
 use Rattle.schedule.specs.declared.Leap.{Leap}
-use Rattle.schedule.specs.Schedule.{leapsOf, wellFormed}
+use Rattle.schedule.specs.Schedule.{leapsOf}
 use Rattle.schedule.specs.WordLayout.{monthWord, countWord, meant}
 use Rattle.clock.proofs.Checks.{passed, failed}
 use Rattle.clock.proofs.Places.{not-well}

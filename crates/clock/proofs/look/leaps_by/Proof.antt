@@ -1,14 +1,13 @@
 -- `clock::look::leaps_by` meets its contract: the leaps from n on lie after the month. Assumes nothing.
-use mathlib.Core.Path.{_≡_, sym, ap, _∙_}
-use Prim.Native.Nat.{_-_, _≤_, _<_}
+use mathlib.Core.Path.{_≡_, sym, ap}
+use Prim.Native.Nat.{_-_, _<_}
 use native.Mathlib.Omega.{arith}
-use lib.ListN.{length, getD, length-map}
+use lib.ListN.{length, length-map}
 use lib.Seq.{getD-take}
-use borrow.Author.Needs.{needs}
 use Rattle.schedule.specs.Schedule.{noLeap, leapsOf}
 use Rattle.schedule.proofs.Formed.{used}
 use Rattle.schedule.proofs.Gaps.{parts}
-use Rattle.clock.proofs.Placed.{leapMonth, Beyond, beyond-none, beyond-one, beyond-found, beyond-all}
+use Rattle.clock.proofs.Placed.{Beyond, beyond-none, beyond-one, beyond-found, beyond-all}
 use Rattle.clock.proofs.look.leaps_by.Statement.{statement}
 use Rattle.clock.proofs.look.leaps_by.Tie as tie
 

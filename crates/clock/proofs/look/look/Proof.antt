@@ -1,12 +1,11 @@
 -- `clock::look::look` meets its contract. Assumes nothing.
 use mathlib.Core.Path.{_≡_, sym, _∙_}
-use mathlib.Core.Bool.{true}
 use Prim.Native.Nat.{_≤_, _<_}
 use native.Mathlib.Omega.{arith}
 use lib.ListN.{length, length-map}
 use lib.Seq.{getD-take}
 use borrow.Author.Needs.{needs}
-use Rattle.schedule.specs.Schedule.{noLeap, leapsOf, wellFormed}
+use Rattle.schedule.specs.Schedule.{noLeap, leapsOf}
 use Rattle.schedule.proofs.Formed.{used}
 use Rattle.schedule.proofs.Gaps.{parts}
 use Rattle.schedule.proofs.WordLayout.{small-month}

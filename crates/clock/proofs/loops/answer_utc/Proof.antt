@@ -1,6 +1,6 @@
 -- `clock::loops::answer_utc` meets its contract: up to element i the arrays are filled. Assumes nothing.
 use mathlib.Core.Path.{refl}
-use Prim.Native.Nat.{ℕ, _-_}
+use Prim.Native.Nat.{_-_}
 use native.Mathlib.Omega.{arith}
 use borrow.Author.Needs.{needs}
 use Rattle.schedule.specs.WordLayout.{meant}
