@@ -12,7 +12,10 @@ const A: &[u8] = b"6+6+12+12+12+12+12+12+12+18+12+12+24+30+24+12+18+12+12+5?";
 const B: &[u8] = b"\x00\x11\x11\x11\x12\x11\x34\x31\x21\x12\x22\x9D\x56\x52\x87\xFA";
 
 fn reading(name: &str, r: &Reading) -> String {
-    format!("{name} {} {} {} {}", r.number, r.place, r.schedule.count, r.schedule.expiry)
+    format!(
+        "{name} {} {} {} {}",
+        r.number, r.place, r.schedule.count, r.schedule.expiry
+    )
 }
 
 fn last_leap(name: &str, raw: &Raw) -> String {
@@ -63,9 +66,17 @@ pub fn lines() -> Vec<String> {
         ("P5", b"999?"),
         ("P6", b"5?\n"),
     ];
-    all.extend(texts.iter().map(|(name, list)| reading(name, &read_text(list))));
+    all.extend(
+        texts
+            .iter()
+            .map(|(name, list)| reading(name, &read_text(list))),
+    );
     let nybbles: [(&str, &[u8]); 3] = [("P7", b"\xF4"), ("P8", b"\x0F"), ("P9", b"\x9D")];
-    all.extend(nybbles.iter().map(|(name, list)| reading(name, &read_nybbles(list))));
+    all.extend(
+        nybbles
+            .iter()
+            .map(|(name, list)| reading(name, &read_nybbles(list))),
+    );
     let plus = read_text(b"6+5?").schedule;
     let minus = read_text(b"6-5?").schedule;
     for (name, raw, second) in [
@@ -94,8 +105,16 @@ pub fn lines() -> Vec<String> {
     all.push(reading("N", &read_text(b"6-5?")));
     all.push(written("999", &read_text(b"999?").schedule));
     for (name, raw, seconds) in [
-        ("inserted", &plus, [85_400, 85_401, 85_402, 85_403, 85_404, 86_399, 86_400]),
-        ("deleted", &minus, [85_398, 85_399, 85_400, 85_401, 85_402, 85_403, 86_398]),
+        (
+            "inserted",
+            &plus,
+            [85_400, 85_401, 85_402, 85_403, 85_404, 86_399, 86_400],
+        ),
+        (
+            "deleted",
+            &minus,
+            [85_398, 85_399, 85_400, 85_401, 85_402, 85_403, 86_398],
+        ),
     ] {
         all.extend(seconds.map(|second| smooth(name, raw, 41_498, second * 1_000_000)));
         all.extend([0, 1].map(|second| smooth(name, raw, 41_499, second * 1_000_000)));
