@@ -13,7 +13,6 @@ pub mod Differ
 pub mod Numbers
 pub mod Places
 pub mod LaidOut
-pub mod Clear
 pub mod Placed
 pub mod Stretched
 pub mod Preparing

@@ -45,10 +45,6 @@ pub record Ahead (ls : List Leap) (n next : ℕ) (sign : Sign) : Type 0 where
   pub some : n < length ls → getD ls n noLeap ≡ record { month = next; sign = sign }
   pub none : length ls ≤ n → next ≡ 0
 
--- no month of a list is as great: half the numbers of 32 bits
-abbrev pub greatMonth : ℕ
-greatMonth = 2_147_483_648
-
 -- the tallies of a survey are those of a day and of the next
 pub record TalliedOn (s : Schedule) (day : ℕ) (v : Survey) : Type 0 where
   pub up : v .up ≡ tally Positive (leapsOf s) day

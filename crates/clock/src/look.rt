@@ -3,19 +3,14 @@
 ghost use mathlib.Core.Path.{_≡_};
 ghost use mathlib.Core.Bool.{true, false};
 ghost use Prim.Native.Nat.{ℕ, _≤_, _<_};
-ghost use lib.Dec.{eqb};
 ghost use lib.ListN.{length};
 ghost use Rattle.calendar.specs.Calendar.{lastMonth, InMonth};
 ghost use Rattle.schedule.specs.declared.Schedule.{Schedule};
-ghost use Rattle.schedule.specs.Schedule.{maxLeaps, leapsOf, gapFits, isUnused, wellFormed};
+ghost use Rattle.schedule.specs.Schedule.{maxLeaps, leapsOf, wellFormed};
 ghost use Rattle.schedule.specs.Extends.{sameSign};
 ghost use Rattle.schedule.specs.declared.Sign.the-variants.{Positive, Negative};
 ghost use Rattle.clock.specs.Days.{count};
-ghost use Rattle.clock.specs.Inner.{greatMonth, ByMonth, Lowered, Ahead, TalliedOn, Surveyed};
-use schedule::LAST_MONTH;
-use schedule::Leap;
-use schedule::MAX_GAP;
-use schedule::MAX_LEAPS;
+ghost use Rattle.clock.specs.Inner.{ByMonth, Lowered, Ahead, TalliedOn, Surveyed};
 use schedule::Schedule;
 use schedule::Sign;
 
@@ -32,34 +27,6 @@ pub(crate) fn wide(x: u16) -> u32
     ensures { λ r. ⌜ (r ≡ x) × (r < 65_536) ⌝ }
 {
     x as u32
-}
-
-// 0 if the gap from a month to another is 1 to 999, else 1. One comparison sees both ends: a gap below 1 wraps round to a great number. From a
-// month as great as no list has, a gap may wrap too.
-pub(crate) fn misfit(from: u32, to: u32) -> u32
-    ensures { λ r. ⌜ (from < greatMonth → eqb r 0 ≡ gapFits from to) × (r ≤ 1) ⌝ }
-{
-    let gap = std::num::wrapping_sub_u32(to, from);
-    if std::num::wrapping_sub_u32(gap, 1) < MAX_GAP {
-        return 0;
-    }
-    1
-}
-
-// 0 if a place holds month 0 and a positive sign, else 1.
-fn used(l: Leap) -> u32
-    ensures { λ r. ⌜ (eqb r 0 ≡ isUnused l) × (r ≤ 1) ⌝ }
-{
-    let month = l.month;
-    if month == 0 {
-        let sign = l.sign;
-        match sign {
-            Sign::Positive => 0,
-            Sign::Negative => 1,
-        }
-    } else {
-        1
-    }
 }
 
 // 1 for a positive leap, else 0.
@@ -121,36 +88,6 @@ pub(crate) fn survey_by(n: usize, down: u32, next: u16, sign: Sign, day: u64) ->
     }
 }
 
-// Whether a schedule is well formed. Its faults are counted, so that no loop has a way out and each is compiled to vectors.
-fn is_list(s: Schedule) -> bool
-    ensures { λ r. ⌜ r ≡ wellFormed s ⌝ }
-{
-    let count = s.count;
-    let expiry = s.expiry;
-    if MAX_LEAPS < count {
-        return false;
-    }
-    if LAST_MONTH < expiry {
-        return false;
-    }
-    let mut faults: u32 = 0;
-    let mut last: u32 = 0;
-    let mut i: usize = 0;
-    while i < count {
-        let at = wide(s.leaps[i].month);
-        faults += misfit(last, at);
-        last = at;
-        i += 1;
-    }
-    faults += misfit(last, expiry);
-    while i < 256 {
-        let l = s.leaps[i];
-        faults += used(l);
-        i += 1;
-    }
-    faults == 0
-}
-
 // How many leaps of a well-formed schedule lie at a month or before it. The last ones are looked at first, since most days asked about are
 // late.
 fn leaps_by(s: Schedule, month: u16) -> usize
@@ -188,7 +125,7 @@ fn lowered(s: Schedule, n: usize) -> u32
 pub(crate) fn look(s: Schedule, month: u16, day: u64) -> Survey
     ensures { λ r. ⌜ Surveyed s month day r ⌝ }
 {
-    if !is_list(s) {
+    if !schedule::is_well_formed(s) {
         return malformed();
     }
     let n = leaps_by(s, month);

@@ -7,7 +7,6 @@ ghost use lib.ListN.{length};
 ghost use Rattle.schedule.specs.WordLayout.{meant};
 ghost use Rattle.clock.specs.Question.{dtaiOn, utcToTai, taiToUtc, utcToUts, utsToUtc};
 ghost use Rattle.clock.specs.Many.{answerAt, answersAt, HandsMany, HandsManyUtc};
-use crate::inplace::is_list;
 use crate::loops::answer_dtai;
 use crate::loops::answer_micros;
 use crate::loops::answer_tai;
@@ -31,7 +30,7 @@ pub fn dtai(words: &[u32; 514], days: &[u64], numbers: &mut [u8], dtais: &mut [i
     ensures { λ n. ⌜ HandsMany (pos 0) (answerAt (dtaiOn (meant (now (words .entry)))) (now (days .entry))) (min (length (now (days .entry))) (min (length (now (numbers .entry))) (length (now (dtais .entry))))) (now (numbers .entry)) (now (dtais .entry)) n (now (numbers .exit)) (now (dtais .exit)) ⌝ }
 {
     let n = shorter(days.len(), shorter(numbers.len(), dtais.len()));
-    if is_list(words) {
+    if schedule::is_list(words) {
         answer_dtai(words, days, numbers, dtais, n);
         return n as u64;
     }
@@ -54,7 +53,7 @@ pub fn utc_to_tai(
         shorter(days.len(), micros.len()),
         shorter(numbers.len(), tais.len()),
     );
-    if is_list(words) {
+    if schedule::is_list(words) {
         answer_tai(words, days, micros, numbers, tais, n);
         return n as u64;
     }
@@ -77,7 +76,7 @@ pub fn utc_to_uts(
         shorter(days.len(), micros.len()),
         shorter(numbers.len(), nanos.len()),
     );
-    if is_list(words) {
+    if schedule::is_list(words) {
         answer_uts(words, days, micros, numbers, nanos, n);
         return n as u64;
     }
@@ -100,7 +99,7 @@ pub fn uts_to_utc(
         shorter(days.len(), nanos.len()),
         shorter(numbers.len(), micros.len()),
     );
-    if is_list(words) {
+    if schedule::is_list(words) {
         answer_micros(words, days, nanos, numbers, micros, n);
         return n as u64;
     }
@@ -123,7 +122,7 @@ pub fn tai_to_utc(
         shorter(tais.len(), numbers.len()),
         shorter(days.len(), micros.len()),
     );
-    if is_list(words) {
+    if schedule::is_list(words) {
         answer_utc(words, tais, numbers, days, micros, n);
         return n as u64;
     }

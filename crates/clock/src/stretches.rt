@@ -10,7 +10,7 @@ ghost use Rattle.schedule.specs.Schedule.{wellFormed};
 ghost use Rattle.schedule.specs.WordLayout.{signOf, meant};
 ghost use Rattle.schedule.specs.Extends.{sameSign};
 ghost use Rattle.clock.specs.Days.{count};
-ghost use Rattle.clock.specs.Inner.{SurveyedOn, DayFor, Stretch, Starts, Tallies, Fenced, Guesses, Prepared};
+ghost use Rattle.clock.specs.Inner.{DayFor, Stretch, Starts, Tallies, Fenced, Guesses, Prepared};
 use crate::days::Day;
 use crate::days::day_by;
 use crate::inplace::leaps_in;

@@ -13,7 +13,6 @@ use crate::UtsAnswer;
 use crate::UtsNanos;
 use crate::days::day_before;
 use crate::days::day_in;
-use crate::inplace::is_list;
 use crate::questions::NANOS_CUTOFF;
 use crate::questions::UTS_CUTOFF;
 use crate::questions::dtai_on;
@@ -56,7 +55,7 @@ pub fn utc_to_uts(words: &[u32; 514], day: u64, t: UtcMicros) -> UtsAnswer
 {
     let last = day_before(words[513]);
     if t.0 < UTS_CUTOFF {
-        return early_uts(is_list(words), last, day, t.0);
+        return early_uts(schedule::is_list(words), last, day, t.0);
     }
     uts_on(day_in(words, last, day), day, t.0)
 }
@@ -67,7 +66,7 @@ pub fn uts_to_utc(words: &[u32; 514], day: u64, u: UtsNanos) -> MicrosAnswer
 {
     let last = day_before(words[513]);
     if u.0 < NANOS_CUTOFF {
-        return early_micros(is_list(words), last, day, u.0);
+        return early_micros(schedule::is_list(words), last, day, u.0);
     }
     micros_on(day_in(words, last, day), day, u.0)
 }

@@ -3,7 +3,6 @@ use clock::TaiMicros;
 use clock::UtcMicros;
 use clock::UtsNanos;
 use clock::answers;
-ghost use mathlib.Core.Path.{_≡_};
 ghost use Prim.Native.Nat.{min};
 ghost use lib.ListN.{length};
 ghost use Rattle.text.specs.Read.{readText};

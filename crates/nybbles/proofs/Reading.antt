@@ -13,10 +13,11 @@ use Rattle.schedule.specs.declared.Sign.{Sign}
 use Rattle.schedule.specs.declared.Schedule.{Schedule}
 use Rattle.schedule.specs.declared.Reading.{Reading}
 use Rattle.schedule.specs.Schedule.{maxGap, lastMonth, blankSchedule}
-use Rattle.schedule.specs.WordLayout.{wordOfSign, Kept}
+use Rattle.schedule.specs.WordLayout.{wordOfSign}
+use Rattle.schedule.specs.Inner.{SoFar}
 use Rattle.schedule.specs.Answers.{refusal, accepted, HandsReading}
 use Rattle.schedule.proofs.Cases.{by-bool}
-use Rattle.schedule.proofs.Kept.{kept-blank, kept-leap, kept-end}
+use Rattle.schedule.proofs.SoFar.{so-far-blank, so-far-leap, so-far-end}
 use Rattle.nybbles.specs.declared.code.Mark.{Mark}
 use Rattle.nybbles.specs.declared.code.Mark.the-variants.{Continues, Leaps, Expires}
 use Rattle.nybbles.specs.declared.code.Code.{Code}
@@ -63,11 +64,11 @@ leap-room m n k e h = ltb-true n 256 (rw e at h)
 
 -- one leap more, stored in its place
 pub leap-after : (p : Progress) (c : Code) (words : List ℕ) (k : Sign) (w : ℕ) → c .mark ≡ Leaps k → p .count < 256 → w ≡ wordOfSign k
-    → (s : Schedule) → Kept s (p .count) words
+    → (s : Schedule) → SoFar s (p .count) words
     → Moves p (record { gap = 0; total = p .total + c .months; count = p .count + 1 }) (set (set words (2 * p .count) (p .total + c .months)) (2 * p .count + 1) w) s c
 unfolding after
 leap-after p c words k w m h e s kept =
-    record { state = rw m; kept = rw m (kept-leap s (p .count) words kept h (p .total + c .months) k w e); few = λ _. omega arith }
+    record { state = rw m; kept = rw m (so-far-leap s (p .count) words kept h (p .total + c .months) k w e); few = λ _. omega arith }
 
 -- the months after a code
 marked-total : (m : Mark) (g t : ℕ) (s : Schedule) → marked m g t s .total ≡ t
@@ -118,7 +119,7 @@ pub record Reads (bytes words : List ℕ) (p : Progress) (at : ℕ) : Type 0 whe
   pub total-fits : p .total ≤ 2400
   pub few : p .count ≤ 256
   pub so-far : Schedule
-  pub kept : Kept so-far (p .count) words
+  pub kept : SoFar so-far (p .count) words
   pub same : readNybbles bytes ≡ reading bytes at (stateOf p so-far)
 
 pub begins : (bytes : List ℕ) → Reads bytes (replicate 514 0) (record { gap = 0; total = 0; count = 0 }) 0
@@ -131,7 +132,7 @@ begins bytes =
       total-fits = omega arith;
       few = omega arith;
       so-far = blankSchedule;
-      kept = kept-blank;
+      kept = so-far-blank;
       same = refl;
     }
 
@@ -160,7 +161,7 @@ module _ (bytes words : List ℕ) (at : ℕ) (p : Progress) (h : Reads bytes wor
       unfolding st
       passed = rw (h .kept .its-count) at (passes st c (sym found ∙ e))
 
-      module _ (p′ : Progress) (words′ : List ℕ) (moves : (s : Schedule) → Kept s (p .count) words → Moves p p′ words′ s c) (x : Bool) (m : x ≡ isExpiry (c .mark)) where
+      module _ (p′ : Progress) (words′ : List ℕ) (moves : (s : Schedule) → SoFar s (p .count) words → Moves p p′ words′ s c) (x : Bool) (m : x ≡ isExpiry (c .mark)) where
         moved : Moves p p′ words′ (h .so-far) c
         moved = moves (h .so-far) (h .kept)
 
@@ -197,7 +198,7 @@ module _ (bytes words : List ℕ) (at : ℕ) (p : Progress) (h : Reads bytes wor
           unfolding st
           accepts l =
               let is : readNybbles bytes ≡ accepted (after st c .schedule) (p′ .total) = last ∙ simp (le-ltb _ _ l) in
-              rw is (kept-end (after st c .schedule) (p′ .count) words′ (moved .kept) (p′ .total))
+              rw is (so-far-end (after st c .schedule) (p′ .count) words′ (moved .kept) (p′ .total))
 
           pub few-after : p′ .count ≤ 256
           few-after = moved .few (h .few)

@@ -7,7 +7,7 @@ use mathlib.Core.List.{List, _∷_}
 use lib.ListN.{length, take, drop}
 use Rattle.schedule.specs.declared.Schedule.{Schedule}
 use Rattle.schedule.specs.Schedule.{maxLeaps, maxGap, lastMonth}
-use Rattle.schedule.specs.WordLayout.{Kept}
+use Rattle.schedule.specs.Inner.{SoFar}
 use Rattle.nybbles.specs.declared.code.Code.{Code}
 use Rattle.nybbles.specs.declared.progress.Progress.{Progress}
 use Rattle.nybbles.specs.Codes.{nybbles, codesOf}
@@ -32,7 +32,7 @@ pub record Passes (gap total count : ℕ) (c : Code) : Type 0 where
 -- the reader's numbers before and after a code, and the words after it, where s is the schedule before it
 pub record Moves (p p′ : Progress) (words′ : List ℕ) (s : Schedule) (c : Code) : Type 0 where
   pub state : stateOf p′ (after (stateOf p s) c .schedule) ≡ after (stateOf p s) c
-  pub kept : Kept (after (stateOf p s) c .schedule) (p′ .count) words′
+  pub kept : SoFar (after (stateOf p s) c .schedule) (p′ .count) words′
   pub few : p .count ≤ maxLeaps → p′ .count ≤ maxLeaps
 
 -- a code starts at a place

@@ -6,7 +6,7 @@ use schedule::MAX_GAP;
 use schedule::MAX_LEAPS;
 ghost use mathlib.Core.Path.{_≡_};
 ghost use Rattle.schedule.specs.declared.Schedule.{Schedule};
-ghost use Rattle.schedule.specs.WordLayout.{Kept};
+ghost use Rattle.schedule.specs.Inner.{SoFar};
 ghost use Rattle.nybbles.specs.Read.{hasRoom, isExpiry, fault};
 ghost use Rattle.nybbles.specs.Inner.{stateOf, Short, Passes, Moves};
 
@@ -60,7 +60,7 @@ pub(crate) fn fault_of(p: Progress, c: Code) -> u8
 // What is read after a code that passes the checks; its leap goes into `words`.
 pub(crate) fn after_code(p: Progress, c: Code, words: &mut [u32; 514]) -> Progress
     requires { ⌜ Passes (p .gap) (p .total) (p .count) c ⌝ }
-    ensures { λ r. ⌜ ((s : Schedule) → Kept s (p .count) (now (words .entry)) → Moves p r (now (words .exit)) s c) ⌝ }
+    ensures { λ r. ⌜ ((s : Schedule) → SoFar s (p .count) (now (words .entry)) → Moves p r (now (words .exit)) s c) ⌝ }
 {
     let gap = p.gap + c.months;
     let total = p.total + c.months;

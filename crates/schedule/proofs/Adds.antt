@@ -17,7 +17,7 @@ use Rattle.schedule.specs.declared.Leap.{Leap}
 use Rattle.schedule.specs.declared.Schedule.{Schedule}
 use Rattle.schedule.specs.Schedule.{noLeap, blankSchedule, leapsOf, isPositive, isUnused, allUnused, wellFormed}
 use Rattle.schedule.specs.Answers.{withLeap, accepted}
-use Rattle.schedule.proofs.Gaps.{Parts, parts}
+use Rattle.schedule.proofs.Gaps.{parts}
 
 -- a schedule with the leaps of a list more
 unfoldable pub adds : Schedule → List Leap → Schedule

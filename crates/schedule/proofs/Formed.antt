@@ -1,16 +1,15 @@
 -- Laws of `gapsFit` and `allUnused` at a place of a schedule.
 -- Assumes nothing.
-use mathlib.Core.Path.{_≡_, refl, sym, _∙_}
-use mathlib.Core.Bool.{true, false}
-use mathlib.Core.List.{List, _∷_}
+use mathlib.Core.Path.{_≡_}
+use mathlib.Core.Bool.{true}
+use mathlib.Core.List.{_∷_}
 use Prim.Native.Nat.{ℕ, _+_, _≤_, _<_}
 use native.Mathlib.Numerals.{add-one}
 use native.Mathlib.Omega.{arith}
-use lib.ListN.{length, getD, drop, take, length-take, drop-of-length-le}
+use lib.ListN.{length, getD, drop, length-take, drop-of-length-le}
 use lib.Seq.{drop-cons, length-take-le, getD-take}
-use Rattle.schedule.specs.declared.Leap.{Leap}
 use Rattle.schedule.specs.declared.Schedule.{Schedule}
-use Rattle.schedule.specs.Schedule.{noLeap, leapsOf, gapFits, gapsFit, isUnused, allUnused}
+use Rattle.schedule.specs.Schedule.{noLeap, leapsOf, gapFits, gapsFit, allUnused}
 
 -- the leap at a place in use
 pub in-use : (s : Schedule) (i : ℕ) → i < length (leapsOf s) → drop i (leapsOf s) ≡ getD (s .leaps) i noLeap ∷ drop (i + 1) (leapsOf s)
@@ -24,15 +23,6 @@ module _ (s : Schedule) (full : length (s .leaps) ≡ 256) (i : ℕ) where
   pub used : s .count ≤ 256 → length (leapsOf s) ≡ s .count
   used c = length-take-le (s .count) (s .leaps) (omega arith)
 
-  module _ (c : s .count ≤ 256) (h : i < s .count) (last month expiry : ℕ) (e : month ≡ getD (s .leaps) i noLeap .month) where
-    pub gap-next : gapFits last month ≡ true → gapsFit last (drop i (leapsOf s)) expiry ≡ gapsFit month (drop (i + 1) (leapsOf s)) expiry
-    unfolding gapsFit
-    gap-next f = rw (in-use s i (omega (arith, used c)), ← e) (simp f)
-
-    pub gap-wrong : gapFits last month ≡ false → gapsFit last (drop i (leapsOf s)) expiry ≡ false
-    unfolding gapsFit
-    gap-wrong f = rw (in-use s i (omega (arith, used c)), ← e) (simp f)
-
   pub gap-last : s .count ≤ 256 → s .count ≤ i → (last expiry : ℕ) → gapsFit last (drop i (leapsOf s)) expiry ≡ gapFits last expiry
   unfolding gapsFit
   gap-last c h last expiry =
@@ -44,14 +34,6 @@ module _ (s : Schedule) (full : length (s .leaps) ≡ 256) (i : ℕ) where
   at-place h =
       let j : i < length (s .leaps) = omega arith in
       rw (add-one, drop-cons (s .leaps) i noLeap j)
-
-  pub unused-next : i < 256 → isUnused (getD (s .leaps) i noLeap) ≡ true → allUnused (drop i (s .leaps)) ≡ allUnused (drop (i + 1) (s .leaps))
-  unfolding allUnused
-  unused-next h u = rw (at-place h) (simp u)
-
-  pub unused-wrong : i < 256 → isUnused (getD (s .leaps) i noLeap) ≡ false → allUnused (drop i (s .leaps)) ≡ false
-  unfolding allUnused
-  unused-wrong h u = rw (at-place h) (simp u)
 
   pub unused-last : 256 ≤ i → allUnused (drop i (s .leaps)) ≡ true
   unfolding allUnused

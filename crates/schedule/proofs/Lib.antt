@@ -3,9 +3,12 @@ pub mod Cases
 pub mod Gaps
 pub mod Formed
 pub mod WordLayout
+pub mod Faults
+pub mod WordFaults
+pub mod Clear
 pub mod Adds
 pub mod Sound
-pub mod Kept
+pub mod SoFar
 pub mod Meant
 pub mod Stand
 pub mod Answers

@@ -1,11 +1,10 @@
 -- The C struct leap_schedule as 514 words: the month and the sign of each of 256 leaps in turn, then the count, then the expiry.
 -- Assumes nothing: these are definitions.
 use Prim.Native.Nat.{ℕ, zero, suc, _+_, _*_}
-use mathlib.Core.Path.{_≡_}
 use mathlib.Core.Bool.{Bool, true, _&&_, cond}
 use mathlib.Core.List.{List, [], _∷_, _++_}
 use lib.Dec.{ltb, eqb}
-use lib.ListN.{length, getD}
+use lib.ListN.{getD}
 use Rattle.schedule.specs.declared.Sign.{Sign}
 use Rattle.schedule.specs.declared.Sign.the-variants.{Positive, Negative}
 use Rattle.schedule.specs.declared.Leap.{Leap}
@@ -75,9 +74,3 @@ leapWords (l ∷ ls) = l .month ∷ wordOfSign (l .sign) ∷ leapWords ls
 
 unfoldable pub wordsOf : Schedule → List ℕ
 wordsOf s = leapWords (s .leaps) ++ (s .count ∷ s .expiry ∷ [])
-
--- the words that a reader fills: the leaps so far, and 0 where the count and the expiry will stand
-pub record Kept (s : Schedule) (count : ℕ) (words : List ℕ) : Type 0 where
-  pub full : length (s .leaps) ≡ maxLeaps
-  pub its-count : s .count ≡ count
-  pub its-words : words ≡ leapWords (s .leaps) ++ (0 ∷ 0 ∷ [])

@@ -3,11 +3,13 @@ ghost use mathlib.Core.Path.{_≡_};
 ghost use mathlib.Core.Bool.{true, _&&_};
 ghost use Prim.Native.Nat.{_≤_};
 ghost use lib.Dec.{ltb};
-ghost use lib.ListN.{length, drop};
-ghost use Rattle.schedule.specs.Schedule.{maxLeaps, blankSchedule, leapsOf, gapFits, gapsFit, isUnused, allUnused, wellFormed};
+ghost use lib.ListN.{length};
+ghost use Rattle.schedule.specs.Schedule.{maxLeaps, blankSchedule, leapsOf, wellFormed};
 ghost use Rattle.schedule.specs.Extends.{sameSign, sameLeap, extends};
 ghost use Rattle.schedule.specs.WordLayout.{standForLeaps, leapBy, laidOut, meant, wordOfSign};
 ghost use Rattle.schedule.specs.Answers.{refusal, HandsReading};
+
+mod check; // check.rt: the faults of a schedule that is not well formed
 
 // A schedule has at most 256 leaps.
 pub const MAX_LEAPS: usize = 256;
@@ -172,83 +174,51 @@ pub fn hand_refusal(number: u8, at: usize, out: &mut [u32; 514], place: &mut u64
     number
 }
 
-// Whether a gap from a month to another is 1 to 999.
-fn gap_fits(from: u32, to: u32) -> bool
-    ensures { λ r. ⌜ r ≡ gapFits from to ⌝ }
-{
-    if from < to {
-        to - from <= MAX_GAP
-    } else {
-        false
-    }
-}
-
-// Whether a place holds month 0 and a positive sign.
-fn is_unused(l: Leap) -> bool
-    ensures { λ r. ⌜ r ≡ isUnused l ⌝ }
-{
-    let month = l.month;
-    if month == 0 {
-        let sign = l.sign;
-        match sign {
-            Sign::Positive => true,
-            Sign::Negative => false,
-        }
-    } else {
-        false
-    }
-}
-
-// Whether every gap is 1 to 999 months, from month 0 over the leaps in use to the expiry.
-fn gaps_fit(s: Schedule) -> bool
-    requires { ⌜ s .count ≤ 256 ⌝ }
-    ensures { λ r. ⌜ r ≡ gapsFit 0 (leapsOf s) (s .expiry) ⌝ }
-{
-    let count = s.count;
-    let mut last: u32 = 0;
-    let mut i: usize = 0;
-    while i < count {
-        let month = wide(s.leaps[i].month);
-        if gap_fits(last, month) {
-            last = month;
-            i += 1;
-        } else {
-            return false;
-        }
-    }
-    gap_fits(last, s.expiry)
-}
-
-// Whether the places that are not in use hold month 0 and a positive sign.
-fn rest_unused(s: Schedule) -> bool
-    requires { ⌜ s .count ≤ 256 ⌝ }
-    ensures { λ r. ⌜ r ≡ allUnused (drop (s .count) (s .leaps)) ⌝ }
-{
-    let mut i = s.count;
-    while i < 256 {
-        let l = s.leaps[i];
-        if is_unused(l) {
-            i += 1;
-        } else {
-            return false;
-        }
-    }
-    true
-}
-
 // Whether a schedule is well formed; any value at all may be given.
 pub fn is_well_formed(s: Schedule) -> bool
     ensures { λ r. ⌜ r ≡ wellFormed s ⌝ }
 {
     let count = s.count;
+    let expiry = s.expiry;
     if MAX_LEAPS < count {
         return false;
     }
-    let expiry = s.expiry;
     if LAST_MONTH < expiry {
         return false;
     }
-    if gaps_fit(s) { rest_unused(s) } else { false }
+    let mut faults: u32 = 0;
+    let mut last: u32 = 0;
+    let mut i: usize = 0;
+    while i < count {
+        let at = wide(s.leaps[i].month);
+        faults += check::misfit(last, at);
+        last = at;
+        i += 1;
+    }
+    faults += check::misfit(last, expiry);
+    while i < 256 {
+        let l = s.leaps[i];
+        faults += check::used(l);
+        i += 1;
+    }
+    faults == 0
+}
+
+// Whether words stand for a well-formed schedule; any words at all may be given.
+pub fn is_list(words: &[u32; 514]) -> bool
+    ensures { λ r. ⌜ r ≡ wellFormed (meant (now (words .entry))) ⌝ }
+{
+    if 256 < words[512] {
+        return false;
+    }
+    if LAST_MONTH < words[513] {
+        return false;
+    }
+    if check::leaps_fit(words) {
+        check::rest_clear(words)
+    } else {
+        false
+    }
 }
 
 // Whether two signs are equal.

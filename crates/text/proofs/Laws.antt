@@ -24,9 +24,10 @@ use Rattle.text.specs.declared.End.{End}
 use Rattle.text.specs.declared.End.the-variants.{Taken, Refusal}
 use Rattle.text.specs.declared.Mark.the-variants.{Leaps, Expires, Neither}
 use Rattle.schedule.specs.declared.Sign.{Sign}
-use Rattle.schedule.specs.WordLayout.{wordOfSign, Kept}
+use Rattle.schedule.specs.WordLayout.{wordOfSign}
+use Rattle.schedule.specs.Inner.{SoFar}
 use Rattle.schedule.specs.Answers.{refusal, accepted, withLeap, HandsReading}
-use Rattle.schedule.proofs.Kept.{kept-leap, kept-end}
+use Rattle.schedule.proofs.SoFar.{so-far-leap, so-far-end}
 use Rattle.text.specs.Bytes.{isDigit, digitOf, markOf}
 use Rattle.text.specs.Read.{mayFollow, readFrom}
 use Rattle.text.specs.Inner.{stopped, Ends, Due, Scanned}
@@ -84,8 +85,8 @@ module _ (bytes : List ℕ) (g p t : ℕ) (s : Schedule) where
 
     -- a list that is taken stands in the words
     pub takes : markOf (getD bytes p 0) ≡ Expires → t + g ≤ 2400 → length bytes ≤ p + 1
-        → (n : ℕ) (words : List ℕ) → Kept s n words → Ends (readFrom g p t s (drop p bytes)) Taken (set (set words 512 n) 513 (t + g))
-    takes m l e n words kept = rw (expires m l e) (kept-end s n words kept (t + g))
+        → (n : ℕ) (words : List ℕ) → SoFar s n words → Ends (readFrom g p t s (drop p bytes)) Taken (set (set words 512 n) 513 (t + g))
+    takes m l e n words kept = rw (expires m l e) (so-far-end s n words kept (t + g))
 
     module _ (k : Sign) (m : markOf (getD bytes p 0) ≡ Leaps k) where
       pub leap-late : 2400 < t + g → readFrom g p t s (drop p bytes) ≡ refusal 4 p
@@ -101,11 +102,11 @@ module _ (bytes : List ℕ) (g p t : ℕ) (s : Schedule) where
       leaps l f = rw (uncons bytes p h) (simp (due .no-digit h, nonzero, m, le-leb (t + g) 2400 l, lt-ltb (s .count) 256 f))
 
       -- a leap is stored in its place, and the reading goes on
-      pub keeps : t + g ≤ 2400 → (n : ℕ) (words : List ℕ) → n < 256 → Kept s n words → (w : ℕ) → w ≡ wordOfSign k → (r : End) (words′ : List ℕ)
-          → ((s′ : Schedule) → Kept s′ (n + 1) (set (set words (2 * n) (t + g)) (2 * n + 1) w) → Ends (readFrom 0 (p + 1) (t + g) s′ (drop (p + 1) bytes)) r words′)
+      pub keeps : t + g ≤ 2400 → (n : ℕ) (words : List ℕ) → n < 256 → SoFar s n words → (w : ℕ) → w ≡ wordOfSign k → (r : End) (words′ : List ℕ)
+          → ((s′ : Schedule) → SoFar s′ (n + 1) (set (set words (2 * n) (t + g)) (2 * n + 1) w) → Ends (readFrom 0 (p + 1) (t + g) s′ (drop (p + 1) bytes)) r words′)
           → Ends (readFrom g p t s (drop p bytes)) r words′
       keeps l n words f kept w e r words′ on =
-          rw (leaps l (omega (arith, kept .its-count))) (on (withLeap s (t + g) k) (kept-leap s n words kept f (t + g) k w e))
+          rw (leaps l (omega (arith, kept .its-count))) (on (withLeap s (t + g) k) (so-far-leap s n words kept f (t + g) k w e))
 
 -- what `scan_gap` found, where it is a gap
 pub found : (bytes : List ℕ) (p : ℕ) (r : Gap) (g : ℕ) (c : Cursor) → r ≡ Months g c → Scanned bytes p r → Scanned bytes p (Months g c)

@@ -10,7 +10,7 @@ ghost use lib.ListN.{length, drop};
 ghost use lib.Seq.{sets};
 ghost use Rattle.schedule.specs.Schedule.{wellFormed};
 ghost use Rattle.schedule.specs.declared.Schedule.{Schedule};
-ghost use Rattle.schedule.specs.WordLayout.{Kept};
+ghost use Rattle.schedule.specs.Inner.{SoFar};
 ghost use Rattle.schedule.specs.Answers.{writing, written, HandsReading};
 ghost use Rattle.text.specs.Bytes.{isDigit, markOf, signByte};
 ghost use Rattle.text.specs.Read.{readFrom, readText};
@@ -110,7 +110,7 @@ fn scan_gap(bytes: &[u8], from: Cursor) -> Gap
 // the recursion: each level would copy it.
 fn read_gap(bytes: &[u8], from: Cursor, total: u32, count: usize, words: &mut [u32; 514]) -> End
     requires { ⌜ (from .at ≤ length (now bytes)) × (total ≤ 2400) × (count ≤ 256) ⌝ }
-    ensures { λ r. ⌜ ((s : Schedule) → Kept s count (now (words .entry)) → Ends (readFrom 0 (from .at) total s (drop (from .at) (now (bytes .entry)))) r (now (words .exit))) ⌝ }
+    ensures { λ r. ⌜ ((s : Schedule) → SoFar s count (now (words .entry)) → Ends (readFrom 0 (from .at) total s (drop (from .at) (now (bytes .entry)))) r (now (words .exit))) ⌝ }
 {
     let scanned = scan_gap(bytes, from);
     let Gap::Months(gap, next) = scanned else {
@@ -129,7 +129,7 @@ fn read_mark(
     words: &mut [u32; 514],
 ) -> End
     requires { ⌜ Due (now bytes) (from .at) gap × (total ≤ 2400) × (count ≤ 256) ⌝ }
-    ensures { λ r. ⌜ ((s : Schedule) → Kept s count (now (words .entry)) → Ends (readFrom gap (from .at) total s (drop (from .at) (now (bytes .entry)))) r (now (words .exit))) ⌝ }
+    ensures { λ r. ⌜ ((s : Schedule) → SoFar s count (now (words .entry)) → Ends (readFrom gap (from .at) total s (drop (from .at) (now (bytes .entry)))) r (now (words .exit))) ⌝ }
 {
     let at = from.at;
     if at == bytes.len() {

@@ -1,7 +1,7 @@
 -- `text::read_words` meets its contract: the recursion starts at the blank schedule, of which nothing is in the words. Assumes nothing.
 use borrow.Author.Needs.{needs}
 use Rattle.schedule.specs.Schedule.{blankSchedule}
-use Rattle.schedule.proofs.Kept.{kept-blank}
+use Rattle.schedule.proofs.SoFar.{so-far-blank}
 use Rattle.text.specs.Read.{readText}
 use Rattle.text.proofs.Laws as laws
 use Rattle.text.proofs.read_words.Statement.{statement}
@@ -12,7 +12,7 @@ unfolding readText
 returns c =
     let enum-told = c .enum-told in
     let read-gap = c .before .before .read-gap in
-    laws.was-taken _ _ _ (enum-told .given .1) (read-gap .ensures blankSchedule kept-blank)
+    laws.was-taken _ _ _ (enum-told .given .1) (read-gap .ensures blankSchedule so-far-blank)
 
 returns-2 : tie.Need-returns-2
 unfolding readText
@@ -20,7 +20,7 @@ returns-2 c =
     let end = c .before .before .before .before .end in
     let read-gap = c .before .before .before .before .before .before .read-gap in
     let hand-refusal = c .hand-refusal in
-    laws.was-refused _ _ _ _ _ (end .given .1) (read-gap .ensures blankSchedule kept-blank) _ _ _ (hand-refusal .ensures)
+    laws.was-refused _ _ _ _ _ (end .given .1) (read-gap .ensures blankSchedule so-far-blank) _ _ _ (hand-refusal .ensures)
 
 pub read-words-spec : {M : Type 1} → statement M
 read-words-spec = tie.close (tie.spec (λ c κs. search needs) (λ c. search needs) (λ c. search needs) (λ c κs. search needs) returns returns-2)

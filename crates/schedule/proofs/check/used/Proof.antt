@@ -1,9 +1,9 @@
--- `clock::look::used` meets its contract. Assumes nothing.
+-- `schedule::check::used` meets its contract. Assumes nothing.
 use native.Mathlib.Omega.{arith}
 use borrow.Author.Needs.{needs}
 use borrow.Author.Tests.{eq-eqb, ne-eqb}
-use Rattle.clock.proofs.look.used.Statement.{statement}
-use Rattle.clock.proofs.look.used.Tie as tie
+use Rattle.schedule.proofs.check.used.Statement.{statement}
+use Rattle.schedule.proofs.check.used.Tie as tie
 
 returns : tie.Need-returns
 returns c = (simp (eq-eqb _ _ (c .before .before .if1 .taken), c .enum-told .given .1), omega arith)

@@ -1,12 +1,12 @@
--- `clock::inplace::rest_clear` meets its contract. Assumes nothing.
+-- `schedule::check::rest_clear` meets its contract. Assumes nothing.
 use mathlib.Core.Path.{_≡_}
 use Prim.Native.Nat.{_-_, _*_, _≤_}
 use native.Mathlib.Omega.{arith}
 use borrow.Author.Needs.{needs}
 use Rattle.schedule.specs.WordLayout.{countWord}
-use Rattle.clock.proofs.Clear.{Together, together-none, together-one, together-tells}
-use Rattle.clock.proofs.inplace.rest_clear.Statement.{statement}
-use Rattle.clock.proofs.inplace.rest_clear.Tie as tie
+use Rattle.schedule.proofs.Clear.{Together, together-none, together-one, together-tells}
+use Rattle.schedule.proofs.check.rest_clear.Statement.{statement}
+use Rattle.schedule.proofs.check.rest_clear.Tie as tie
 
 abbrev Inv-loop : tie.InvT-loop
 Inv-loop words count rest₀ j₀ rest j = (j ≤ 512) × Together words (2 * countWord words) j rest

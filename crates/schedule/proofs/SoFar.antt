@@ -10,7 +10,8 @@ use Rattle.schedule.specs.declared.Sign.{Sign}
 use Rattle.schedule.specs.declared.Leap.{Leap}
 use Rattle.schedule.specs.declared.Schedule.{Schedule}
 use Rattle.schedule.specs.Schedule.{blankSchedule}
-use Rattle.schedule.specs.WordLayout.{wordOfSign, leapWords, wordsOf, Kept}
+use Rattle.schedule.specs.WordLayout.{wordOfSign, leapWords, wordsOf}
+use Rattle.schedule.specs.Inner.{SoFar}
 use Rattle.schedule.specs.Answers.{refusal, accepted, withLeap, HandsReading}
 
 -- a month and a sign stored at the place of leap i
@@ -35,14 +36,14 @@ store-end (l ∷ ls) i j n e x y p q =
     rw (a, b) (ap (λ (ws : List ℕ). l .month ∷ wordOfSign (l .sign) ∷ ws) (store-end ls (2 * length ls) (2 * length ls + 1) n e x y refl refl))
 
 -- nothing is read yet
-pub kept-blank : Kept blankSchedule 0 (replicate 514 0)
+pub so-far-blank : SoFar blankSchedule 0 (replicate 514 0)
 unfolding leapWords
-kept-blank = record { full = refl; its-count = refl; its-words = refl }
+so-far-blank = record { full = refl; its-count = refl; its-words = refl }
 
-module _ (s : Schedule) (n : ℕ) (words : List ℕ) (k : Kept s n words) where
+module _ (s : Schedule) (n : ℕ) (words : List ℕ) (k : SoFar s n words) where
   -- one leap more is its month and its sign, stored at its place
-  pub kept-leap : n < 256 → (m : ℕ) (g : Sign) (w : ℕ) → w ≡ wordOfSign g → Kept (withLeap s m g) (n + 1) (set (set words (2 * n) m) (2 * n + 1) w)
-  kept-leap h m g w e =
+  pub so-far-leap : n < 256 → (m : ℕ) (g : Sign) (w : ℕ) → w ≡ wordOfSign g → SoFar (withLeap s m g) (n + 1) (set (set words (2 * n) m) (2 * n + 1) w)
+  so-far-leap h m g w e =
       let inside : n < length (s .leaps) = omega (arith, k .full) in
       record {
         full = rw length-set (k .full);
@@ -51,9 +52,9 @@ module _ (s : Schedule) (n : ℕ) (words : List ℕ) (k : Kept s n words) where
       }
 
   -- a list that is taken is the count and the expiry, stored after the leaps
-  pub kept-end : (e : ℕ) → HandsReading (accepted s e) 0 (set (set words 512 n) 513 e) 0
+  pub so-far-end : (e : ℕ) → HandsReading (accepted s e) 0 (set (set words 512 n) 513 e) 0
   unfolding wordsOf
-  kept-end e =
+  so-far-end e =
       record {
         its-number = refl;
         its-words = rw (k .its-words, k .its-count) (store-end (s .leaps) 512 513 n e 0 0 (omega (arith, k .full)) (omega (arith, k .full)));
@@ -61,6 +62,6 @@ module _ (s : Schedule) (n : ℕ) (words : List ℕ) (k : Kept s n words) where
       }
 
 -- a refusal hands over 514 words 0: those of the blank schedule
-pub kept-refusal : (number place : ℕ) → HandsReading (refusal number place) number (replicate 514 0) place
+pub so-far-refusal : (number place : ℕ) → HandsReading (refusal number place) number (replicate 514 0) place
 unfolding wordsOf leapWords
-kept-refusal number place = record { its-number = refl; its-words = refl; its-place = refl }
+so-far-refusal number place = record { its-number = refl; its-words = refl; its-place = refl }

@@ -1,15 +1,15 @@
--- `clock::inplace::is_list` meets its contract. Assumes nothing.
+-- `schedule::is_list` meets its contract. Assumes nothing.
 use mathlib.Core.Path.{refl, sym, ap, _∙_}
 use mathlib.Core.Bool.{_&&_}
 use lib.ListN.{drop}
 use borrow.Author.Needs.{needs}
 use Rattle.schedule.specs.Schedule.{maxLeaps, allUnused}
 use Rattle.schedule.specs.WordLayout.{countWord, leapsAt, laidOut}
 use Rattle.schedule.proofs.WordLayout.{not-meant}
-use Rattle.clock.proofs.Places.{too-many, too-late}
-use Rattle.clock.proofs.LaidOut.{list-by}
-use Rattle.clock.proofs.inplace.is_list.Statement.{statement}
-use Rattle.clock.proofs.inplace.is_list.Tie as tie
+use Rattle.schedule.proofs.Faults.{too-many, too-late}
+use Rattle.schedule.proofs.WordFaults.{list-by}
+use Rattle.schedule.proofs.is_list.Statement.{statement}
+use Rattle.schedule.proofs.is_list.Tie as tie
 
 returns : tie.Need-returns
 returns c =

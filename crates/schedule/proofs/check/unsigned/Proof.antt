@@ -1,8 +1,8 @@
--- `clock::inplace::unsigned` meets its contract. Assumes nothing.
+-- `schedule::check::unsigned` meets its contract. Assumes nothing.
 use native.Mathlib.Omega.{arith}
 use borrow.Author.Tests.{lt-ltb, le-ltb}
-use Rattle.clock.proofs.inplace.unsigned.Statement.{statement}
-use Rattle.clock.proofs.inplace.unsigned.Tie as tie
+use Rattle.schedule.proofs.check.unsigned.Statement.{statement}
+use Rattle.schedule.proofs.check.unsigned.Tie as tie
 
 returns : tie.Need-returns
 returns c = (simp (lt-ltb _ _ (c .if1 .taken)), omega arith)

@@ -1,12 +1,12 @@
--- `clock::inplace::leaps_fit` meets its contract: the loop keeps what the first one of `look` keeps, for the schedule that the words lay out,
--- and the faults of the sign words.
+-- `schedule::check::leaps_fit` meets its contract: the loop keeps what the first one of `is_well_formed` keeps, for the schedule that the
+-- words lay out, and the faults of the sign words.
 -- Assumes nothing.
 use Prim.Native.Nat.{_-_}
 use native.Mathlib.Omega.{arith}
 use borrow.Author.Needs.{needs}
-use Rattle.clock.proofs.LaidOut.{GappedAt, gapped-at-none, gapped-at-one, gapped-at-all}
-use Rattle.clock.proofs.inplace.leaps_fit.Statement.{statement}
-use Rattle.clock.proofs.inplace.leaps_fit.Tie as tie
+use Rattle.schedule.proofs.WordFaults.{GappedAt, gapped-at-none, gapped-at-one, gapped-at-all}
+use Rattle.schedule.proofs.check.leaps_fit.Statement.{statement}
+use Rattle.schedule.proofs.check.leaps_fit.Tie as tie
 
 abbrev Inv-loop : tie.InvT-loop
 Inv-loop words count signs₀ faults₀ last₀ i₀ signs faults last i = GappedAt words signs faults last i

@@ -1,10 +1,10 @@
--- `clock::look::misfit` meets its contract. Assumes nothing.
+-- `schedule::check::misfit` meets its contract. Assumes nothing.
 use mathlib.Core.Path.{sym}
 use native.Mathlib.Omega.{arith}
 use borrow.Author.Needs.{needs}
-use Rattle.clock.proofs.Places.{gap-near, gap-far}
-use Rattle.clock.proofs.look.misfit.Statement.{statement}
-use Rattle.clock.proofs.look.misfit.Tie as tie
+use Rattle.schedule.proofs.Faults.{gap-near, gap-far}
+use Rattle.schedule.proofs.check.misfit.Statement.{statement}
+use Rattle.schedule.proofs.check.misfit.Tie as tie
 
 returns : tie.Need-returns
 returns c =
