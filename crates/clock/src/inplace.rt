@@ -1,4 +1,4 @@
-// A schedule as 514 words, looked at where it stands: whether it is well formed, and what it says of a day.
+// One look at a schedule as 514 words for a day, where they stand: as in look.rt.
 ghost use mathlib.Core.Path.{_≡_};
 ghost use mathlib.Core.Bool.{true};
 ghost use Prim.Native.Nat.{_≤_};

@@ -1,5 +1,5 @@
 // One look at a schedule for a day: whether it is well formed, and how many leaps of each sign are in effect on the day and on the next.
-// The functions that read the places have one caller each: compiled into it they copy no schedule.
+// The functions here that read the places have one caller each, so that they can be compiled into it with no copy of the schedule.
 ghost use mathlib.Core.Path.{_≡_};
 ghost use mathlib.Core.Bool.{true, false};
 ghost use Prim.Native.Nat.{ℕ, _≤_, _<_};
