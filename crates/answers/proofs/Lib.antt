@@ -1,4 +1,4 @@
 -- The laws of answers about a list.
 mod Told
-pub mod Taken
 pub mod Held
+pub mod Chosen

@@ -1,8 +1,11 @@
--- What only the private functions of src/ are held to: the clock's answers as the code has them.
+-- What only the private functions of src/ are held to: the list that a field names, and the clock's answers as the code has them.
 -- No promise to a caller rests on reading this file.
 -- Assumes nothing: these are definitions.
 use Prim.Native.Nat.{ℕ}
+use mathlib.Core.Bool.{cond}
 use mathlib.Core.List.{List, _∷_, _++_}
+use Rattle.format.specs.Ascii.{ascii}
+use Rattle.format.specs.Parts.{same}
 use Rattle.format.specs.Decimal.{decimal, signed}
 use Rattle.clock.specs.declared.UtcMicros.{UtcMicros}
 use Rattle.clock.specs.declared.DtaiAnswer.{DtaiAnswer}
@@ -15,7 +18,12 @@ use Rattle.clock.specs.declared.UtsAnswer.{UtsAnswer}
 use Rattle.clock.specs.declared.UtsAnswer.the-variants as uts
 use Rattle.clock.specs.declared.MicrosAnswer.{MicrosAnswer}
 use Rattle.clock.specs.declared.MicrosAnswer.the-variants as micros
-use Rattle.line.specs.Refusal.{spaceByte, refusal}
+use Rattle.format.specs.Lines.{spaceByte}
+use Rattle.line.specs.Refusal.{refusal}
+
+-- the list that a field names, by the embedded list
+abbrev pub namedBy : List ℕ → List ℕ → List ℕ
+namedBy embedded field = cond (same field (ascii "current")) embedded field
 
 -- the answers of the clock as they are put
 abbrev pub instant : ℕ → UtcMicros → List ℕ

@@ -1,17 +1,21 @@
 -- Answers about the list that a field names.
 -- Assumes nothing: these are definitions.
 use Prim.Native.Nat.{ℕ}
-use mathlib.Core.Bool.{cond}
+use mathlib.Core.Bool.{Bool, cond}
 use mathlib.Core.List.{List}
-use lib.Dec.{eqb}
 use Rattle.format.specs.Ascii.{ascii}
 use Rattle.format.specs.Hex.{hex}
 use Rattle.format.specs.Parts.{same}
 use Rattle.schedule.specs.declared.Schedule.{Schedule}
 use Rattle.schedule.specs.declared.Reading.{Reading}
+use Rattle.schedule.specs.Answers.{byReading}
 use Rattle.text.specs.Read.{readText}
 use Rattle.nybbles.specs.Write.{nybblesOf}
-use Rattle.line.specs.Refusal.{refusalAt}
+use Rattle.compare.specs.declared.longer.Chosen.{Chosen}
+use Rattle.compare.specs.declared.longer.Chosen.the-variants.{First, Second, Refused}
+use Rattle.compare.specs.Compare.{comparisonOf}
+use Rattle.compare.specs.Longer.{chosen}
+use Rattle.line.specs.Refusal.{refusal, refusalAt}
 
 -- the embedded list, the official table of July 2026
 abbrev pub current : List ℕ
@@ -22,11 +26,24 @@ unfoldable pub listOf : List ℕ → List ℕ
 listOf field = cond (same field (ascii "current")) current field
 
 -- an answer about a list that was read, or the refusal of one that does not read
-unfoldable pub aboutRead : Reading → (Schedule → List ℕ) → List ℕ
-aboutRead r f = cond (eqb (r .number) 0) (f (r .schedule)) (refusalAt (r .number) (r .place))
+abbrev pub aboutRead : Reading → (Schedule → List ℕ) → List ℕ
+aboutRead r f = byReading r refusalAt f
 
 abbrev pub aboutList : List ℕ → (Schedule → List ℕ) → List ℕ
 aboutList field f = aboutRead (readText (listOf field)) f
+
+-- two lists compared; of a refusal the number alone
+abbrev pub comparisonAnswer : Bool → List ℕ → List ℕ → List ℕ
+comparisonAnswer lines x y = comparisonOf lines (listOf x) (listOf y)
+
+-- the longer of two lists, or the refusal
+unfoldable pub longerBy : Chosen → List ℕ → List ℕ → List ℕ
+longerBy First x y = x
+longerBy Second x y = y
+longerBy (Refused n) x y = refusal n
+
+abbrev pub longerAnswer : List ℕ → List ℕ → List ℕ
+longerAnswer x y = longerBy (chosen (listOf x) (listOf y)) (listOf x) (listOf y)
 
 -- a list as nybbles, in hex
 abbrev pub nybblesAnswer : List ℕ → List ℕ

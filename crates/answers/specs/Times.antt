@@ -17,7 +17,8 @@ use Rattle.clock.specs.Question.{
   Value,
   ask,
 }
-use Rattle.line.specs.Refusal.{spaceByte, refusal}
+use Rattle.format.specs.Lines.{spaceByte}
+use Rattle.line.specs.Refusal.{refusal}
 use Rattle.answers.specs.declared.times.Asked.{Asked}
 use Rattle.answers.specs.declared.times.Asked.the-variants as asked
 use Rattle.answers.specs.Lists.{aboutList}

@@ -6,6 +6,7 @@ ghost use Rattle.format.specs.Hex.{hex};
 ghost use Rattle.schedule.specs.Schedule.{wellFormed};
 ghost use Rattle.text.specs.Read.{readText};
 ghost use Rattle.nybbles.specs.Write.{nybblesOf};
+ghost use Rattle.answers.specs.Inner.{namedBy};
 ghost use Rattle.answers.specs.Lists.{listOf, nybblesAnswer};
 use format::hex::put_hex;
 use format::parts::same;
@@ -13,16 +14,26 @@ use line::refusal::put_refusal_at;
 use schedule::Reading;
 use schedule::Schedule;
 
-// Reads the list that a field names: the embedded one for the word `current`.
+// The embedded list.
+pub(crate) const CURRENT: [u8; 83] =
+    *b"6+6+12+12+12+12+12+12+12+18+12+12+24+30+24+12+18+12+12+18+18+18+84+36+42+36+18+125?";
+
+// The list that a field names: the embedded one, which is lent, for the word `current`, else the field itself.
+pub(crate) fn list_of<'a>(field: &'a [u8], embedded: &'a [u8]) -> &'a [u8]
+    ensures { λ r. ⌜ now r ≡ namedBy (now (embedded .entry)) (now (field .entry)) ⌝ }
+{
+    if same(field, b"current") {
+        return embedded;
+    }
+    field
+}
+
+// Reads the list that a field names.
 pub fn read_list(field: &[u8]) -> Reading
     ensures { λ r. ⌜ r ≡ readText (listOf (now (field .entry))) ⌝ }
 {
-    if same(field, b"current") {
-        return text::read_text(
-            b"6+6+12+12+12+12+12+12+12+18+12+12+24+30+24+12+18+12+12+18+18+18+84+36+42+36+18+125?",
-        );
-    }
-    text::read_text(field)
+    let embedded = CURRENT;
+    text::read_text(list_of(field, &embedded))
 }
 
 // Puts a schedule as nybbles, in hex.

@@ -9,7 +9,7 @@ use native.Mathlib.Decide.{decLt}
 use native.Mathlib.Omega.{arith}
 use lib.Dec.{ltb}
 use lib.IntN.{ℤ, pos, negsuc, subℕ}
-use borrow.Author.Tests.{ltb-true, ltb-false, lt-ltb, le-ltb, le-leb}
+use borrow.Author.Tests.{ltb-true, ltb-false, le-leb}
 use Rattle.refusals.specs.Refusals.{before1972, notKnown, notWellFormed}
 use Rattle.calendar.specs.Calendar.{firstDay, monthStart}
 use Rattle.calendar.proofs.Laws.{start-zero, start-lt}
@@ -20,6 +20,7 @@ use Rattle.schedule.specs.declared.Schedule.{Schedule}
 use Rattle.schedule.specs.Schedule.{leapsOf, gapsFit, wellFormed}
 use Rattle.schedule.specs.Extends.{sameSign, below, Extends}
 use Rattle.schedule.proofs.Gaps.{fits-lt, first, later, before-end, parts}
+use Rattle.schedule.proofs.Expired.{is-expired, not-expired}
 use Rattle.clock.specs.Days.{firstDtai, count, tally, dtai}
 use Rattle.clock.specs.Known.{expiryDay, lastDay}
 use Rattle.clock.specs.Question.{given, Question, DTAI, Value, ask}
@@ -55,7 +56,7 @@ unfolding below
 below-none m from [] e h i = refl
 below-none m from (l ∷ ls) e h i =
     let g = fits-lt from (l .month) (first from l ls e h) in
-    rw (le-ltb (l .month) m (omega arith)) (below-none m (l .month) ls e (later from l ls e h) (omega arith))
+    rw (is-expired m (l .month) (omega arith)) (below-none m (l .month) ls e (later from l ls e h) (omega arith))
 
 -- ---- two lists of leaps after one month, compared
 
@@ -97,9 +98,9 @@ common : (from : ℕ) (a : Leap) (xs ys : List Leap) (e f : ℕ) → gapsFit fro
     → Outcome (a .month) xs ys e f → Outcome from (a ∷ xs) (a ∷ ys) e f
 unfolding Outcome below
 common from a xs ys e f g h (inl p) =
-    inl (rw (lt-ltb (a .month) e (before-end xs (a .month) e (later from a xs e g))) (ap (λ zs. a ∷ zs) (p .0)), p .1)
+    inl (rw (not-expired e (a .month) (before-end xs (a .month) e (later from a xs e g))) (ap (λ zs. a ∷ zs) (p .0)), p .1)
 common from a xs ys e f g h (inr (inl p)) =
-    inr (inl (rw (lt-ltb (a .month) f (before-end ys (a .month) f (later from a ys f h))) (ap (λ zs. a ∷ zs) (p .0)), p .1))
+    inr (inl (rw (not-expired f (a .month) (before-end ys (a .month) f (later from a ys f h))) (ap (λ zs. a ∷ zs) (p .0)), p .1))
 common from a xs ys e f g h (inr (inr r)) =
     inr (inr (record {
       day = r .day;
@@ -157,14 +158,14 @@ compare from [] (b ∷ ys) e f g h =
     elim (decLt (b .month) e) [
       | yes l ↦ inr (inr (swap (alone from b ys [] f e h l (λ sign. refl))))
       | no l ↦
-          inl (rw (le-ltb (b .month) e (omega arith)) (below-none e (b .month) ys f z (omega arith)), omega (arith, before-end ys (b .month) f z))
+          inl (rw (is-expired e (b .month) (omega arith)) (below-none e (b .month) ys f z (omega arith)), omega (arith, before-end ys (b .month) f z))
     ]
 compare from (a ∷ xs) [] e f g h =
     let z = later from a xs e g in
     elim (decLt (a .month) f) [
       | yes l ↦ inr (inr (alone from a xs [] e f g l (λ sign. refl)))
       | no l ↦
-          inr (inl (rw (le-ltb (a .month) f (omega arith)) (below-none f (a .month) xs e z (omega arith)), omega (arith, before-end xs (a .month) e z)))
+          inr (inl (rw (is-expired f (a .month) (omega arith)) (below-none f (a .month) xs e z (omega arith)), omega (arith, before-end xs (a .month) e z)))
     ]
 compare from (a ∷ xs) (b ∷ ys) e f g h =
     let more = later from a xs e g in

@@ -6,16 +6,17 @@ use mathlib.Core.Path.{_≡_, refl}
 use Prim.Native.Nat.{ℕ, _+_, _≤_, _<_}
 use native.Mathlib.Decide.{decLt}
 use native.Mathlib.Omega.{arith}
-use lib.Dec.{leb, ltb, eqb}
-use borrow.Author.Tests.{ltb-false, eqb-true, eqb-false, le-leb, lt-leb, ne-eqb}
+use lib.Dec.{leb, eqb}
+use borrow.Author.Tests.{eqb-true, eqb-false, le-leb, lt-leb, ne-eqb}
 use Rattle.calendar.specs.Calendar.{monthStart}
 use Rattle.calendar.proofs.Laws.{start-lt, start-le}
 use Rattle.schedule.specs.declared.Sign.{Sign}
 use Rattle.schedule.specs.declared.Sign.the-variants.{Positive, Negative}
 use Rattle.schedule.specs.declared.Leap.{Leap}
-use Rattle.schedule.specs.Schedule.{gapsFit}
+use Rattle.schedule.specs.Schedule.{isExpired, gapsFit}
 use Rattle.schedule.specs.Extends.{sameSign, below}
 use Rattle.schedule.proofs.Gaps.{fits-lt, first, later}
+use Rattle.schedule.proofs.Expired.{expired-from}
 use Rattle.clock.specs.declared.days.Ending.{Ending}
 use Rattle.clock.specs.declared.days.Ending.the-variants.{Ordinary, Inserted, Deleted}
 use Rattle.clock.specs.Days.{count, tally, endingOf, endingBefore}
@@ -29,24 +30,24 @@ not-yet sign l day h = rw (lt-leb (monthStart (l .month)) day h, and-false (same
 pub tally-below : (sign : Sign) (month day : ℕ) (ls : List Leap) → day < monthStart month → tally sign (below month ls) day ≡ tally sign ls day
 unfolding below
 tally-below sign month day [] h = refl
-tally-below sign month day (l ∷ ls) h = go (ltb (l .month) month) refl (tally-below sign month day ls h)
+tally-below sign month day (l ∷ ls) h = go (isExpired month (l .month)) refl (tally-below sign month day ls h)
   where
-    go : (b : Bool) → ltb (l .month) month ≡ b → tally sign (below month ls) day ≡ tally sign ls day
-        → tally sign (cond b (l ∷ below month ls) (below month ls)) day ≡ tally sign (l ∷ ls) day
-    go true p ih = omega arith
-    go false p ih = omega (arith, not-yet sign l day (omega (arith, start-le (ltb-false (l .month) month p))))
+    go : (b : Bool) → isExpired month (l .month) ≡ b → tally sign (below month ls) day ≡ tally sign ls day
+        → tally sign (cond b (below month ls) (l ∷ below month ls)) day ≡ tally sign (l ∷ ls) day
+    go true p ih = omega (arith, not-yet sign l day (omega (arith, start-le (expired-from month (l .month) p))))
+    go false p ih = omega arith
 
 pub ending-below : (month next : ℕ) (ls : List Leap) → next < monthStart month → endingBefore (below month ls) next ≡ endingBefore ls next
 unfolding below
 ending-below month next [] h = refl
-ending-below month next (l ∷ ls) h = go (ltb (l .month) month) refl (ending-below month next ls h)
+ending-below month next (l ∷ ls) h = go (isExpired month (l .month)) refl (ending-below month next ls h)
   where
-    go : (b : Bool) → ltb (l .month) month ≡ b → endingBefore (below month ls) next ≡ endingBefore ls next
-        → endingBefore (cond b (l ∷ below month ls) (below month ls)) next ≡ endingBefore (l ∷ ls) next
-    go true p ih = rw ih
-    go false p ih =
-        let late = start-le (ltb-false (l .month) month p) in
+    go : (b : Bool) → isExpired month (l .month) ≡ b → endingBefore (below month ls) next ≡ endingBefore ls next
+        → endingBefore (cond b (below month ls) (l ∷ below month ls)) next ≡ endingBefore (l ∷ ls) next
+    go true p ih =
+        let late = start-le (expired-from month (l .month) p) in
         rw (ne-eqb (monthStart (l .month)) next (λ q. omega arith)) ih
+    go false p ih = rw ih
 
 -- ---- from day to day, where the months rise
 

@@ -11,7 +11,7 @@ use borrow.Author.Tests.{le-leb, lt-leb}
 use Rattle.format.specs.Parts.{firstPart, parts}
 use Rattle.format.proofs.Splitting.{last-part, more-parts}
 use Rattle.line.specs.declared.words.Word.{Word}
-use Rattle.line.specs.Refusal.{spaceByte}
+use Rattle.format.specs.Lines.{spaceByte}
 use Rattle.line.specs.Words.{expected}
 use Rattle.command.specs.Answer.{answerFor, answerParts, maxLine, tooLong, answerTo}
 

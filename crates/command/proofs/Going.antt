@@ -14,7 +14,7 @@ use Rattle.format.specs.Parts.{firstPart, parts}
 use Rattle.format.proofs.Cases.{by-bool}
 use Rattle.format.proofs.Putting.{nothing, both, two-puts, same-long, from-start}
 use Rattle.format.proofs.Splitting.{last-part, more-parts}
-use Rattle.line.specs.Refusal.{newline}
+use Rattle.format.specs.Lines.{newline}
 use Rattle.command.specs.declared.Step.{Step}
 use Rattle.command.specs.Answer.{maxAnswer, answerTo}
 use Rattle.command.specs.Lines.{butLast, linesOf, answerLine, answered, answersOf, sizeOf, LinesAnswered}

@@ -4,5 +4,6 @@ mod Fields
 mod Unhexed
 mod Going
 mod Unbroken
+mod TwoLists
 pub mod Streams
 pub mod OneLine

@@ -4,7 +4,7 @@ use mathlib.Core.Bool.{false}
 use mathlib.Core.List.{List, [], _∷_, _++_, map, append-assoc}
 use Prim.Native.Nat.{ℕ, zero, suc, _<_}
 use native.Mathlib.Omega.{arith}
-use lib.Dec.{leb, eqb}
+use lib.Dec.{leb}
 use lib.ListN.{length, getD}
 use borrow.Author.Tests.{eqb-false}
 use Rattle.format.specs.Decimal.{numberOf}
@@ -20,8 +20,9 @@ use Rattle.nybbles.specs.Read.{readNybbles}
 use Rattle.nybbles.specs.Write.{nybblesOf}
 use Rattle.clock.specs.Question.{Answer, given, refused, Question, DTAI, UTC-to-TAI, TAI-to-UTC, UTC-to-UTS, UTS-to-UTC, Value, ask}
 use Rattle.line.specs.declared.words.Word.{Word}
-use Rattle.line.specs.declared.words.Word.the-variants.{Show, Nybbles, Text, Dtai, Tai, Utc, Uts, Unsmooth, Other}
-use Rattle.line.specs.Refusal.{newline, spaceByte}
+use Rattle.line.specs.declared.words.Word.the-variants.{Show, Nybbles, Text, Dtai, Tai, Utc, Uts, Unsmooth, Compare, Longer, Other}
+use Rattle.format.specs.Lines.{newline, spaceByte}
+use Rattle.line.specs.Refusal.{refusalAt}
 use Rattle.line.specs.Words.{wordOf, expected}
 use Rattle.show.specs.Show.{shown}
 use Rattle.answers.specs.Lists.{listOf, aboutRead}
@@ -29,13 +30,13 @@ use Rattle.answers.specs.Times.{valuesOf, told, askedOf, askedUnder}
 use Rattle.command.specs.Answer.{aboutNumber, aboutOne, aboutTwo, textAnswer, withOne, withTwo, withThree, answerFor, answerParts, maxLine, tooLong, answerTo}
 use Rattle.command.specs.Lines.{butLast, linesOf, answerLine, answersOf}
 use Rattle.command.proofs.Going.{not-last}
+use Rattle.command.proofs.TwoLists.{in-reading, in-comparison, in-longer}
 use Rattle.command.proofs.Unbroken.{hasNo, Unbroken, more, parted, append, either, in-decimal, in-signed, in-hex, in-text, in-refusal, with-place, in-expected, in-shown}
 
 -- ---- answers about a list
 
 in-read : (r : Reading) (f : Schedule → List ℕ) → ((s : Schedule) → Unbroken (f s)) → Unbroken (aboutRead r f)
-unfolding aboutRead
-in-read r f u = either (eqb (r .number) 0) (u (r .schedule)) (with-place (r .number) (r .place))
+in-read r f u = in-reading r refusalAt f with-place u
 
 in-values : (q : Question) (v : Value q) → Unbroken (valuesOf q v)
 in-values (DTAI day) z = in-signed z
@@ -77,9 +78,11 @@ with-one Tai x = in-expected Tai
 with-one Utc x = in-expected Utc
 with-one Uts x = in-expected Uts
 with-one Unsmooth x = in-expected Unsmooth
+with-one Compare x = in-expected Compare
+with-one Longer x = in-expected Longer
 with-one Other x = in-expected Other
 
-with-two : (w : Word) (x y : List ℕ) → Unbroken (withTwo w x y)
+with-two : (w : Word) (x y : List ℕ) → Unbroken (withTwo false w x y)
 unfolding withTwo
 with-two Show x y = in-expected Show
 with-two Nybbles x y = in-expected Nybbles
@@ -89,6 +92,8 @@ with-two Tai x y = in-expected Tai
 with-two Utc x y = in-one Utc x y TAI-to-UTC
 with-two Uts x y = in-expected Uts
 with-two Unsmooth x y = in-expected Unsmooth
+with-two Compare x y = in-comparison (listOf x) (listOf y)
+with-two Longer x y = in-longer (listOf x) (listOf y)
 with-two Other x y = in-expected Other
 
 with-three : (w : Word) (x y z : List ℕ) → Unbroken (withThree w x y z)
@@ -101,6 +106,8 @@ with-three Tai x y z = in-two Tai x y z UTC-to-TAI
 with-three Utc x y z = in-expected Utc
 with-three Uts x y z = in-two Uts x y z UTC-to-UTS
 with-three Unsmooth x y z = in-two Unsmooth x y z UTS-to-UTC
+with-three Compare x y z = in-expected Compare
+with-three Longer x y z = in-expected Longer
 with-three Other x y z = in-expected Other
 
 with-fields : (w : Word) (fields : List (List ℕ)) → Unbroken (answerFor false w fields)

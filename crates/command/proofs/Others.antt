@@ -9,12 +9,13 @@ use Rattle.format.specs.Decimal.{numberOf}
 use Rattle.format.specs.declared.decimal.Number.the-variants.{Given, Missing}
 use Rattle.line.proofs.words.Word as word
 use Rattle.line.specs.declared.words.Word.{Word}
-use Rattle.line.specs.declared.words.Word.the-variants.{Show, Nybbles, Text, Dtai, Tai, Utc, Uts, Unsmooth, Other}
+use Rattle.line.specs.declared.words.Word.the-variants.{Show, Nybbles, Text, Dtai, Tai, Utc, Uts, Unsmooth, Compare, Longer, Other}
 use Rattle.line.specs.Words.{expected}
 use Rattle.command.specs.Answer.{withOne, withTwo, withThree}
+use Rattle.command.specs.Inner.{withNumber}
 
 abbrev other-one-tags : List ℕ
-other-one-tags = 3 ∷ 4 ∷ 5 ∷ 6 ∷ 7 ∷ 8 ∷ []
+other-one-tags = 3 ∷ 4 ∷ 5 ∷ 6 ∷ 7 ∷ 8 ∷ 9 ∷ 10 ∷ []
 
 -- a word that does not go with one field
 pub other-one : (lines : Bool) (x : List ℕ) (w : Word) → OneOf other-one-tags (tagOf word.the-type w) → withOne lines w x ≡ expected w
@@ -27,26 +28,48 @@ other-one lines x Tai k = refl
 other-one lines x Utc k = refl
 other-one lines x Uts k = refl
 other-one lines x Unsmooth k = refl
+other-one lines x Compare k = refl
+other-one lines x Longer k = refl
 other-one lines x Other k = refl
 
-abbrev other-two-tags : List ℕ
-other-two-tags = 0 ∷ 1 ∷ 2 ∷ 4 ∷ 6 ∷ 7 ∷ 8 ∷ []
+abbrev other-number-tags : List ℕ
+other-number-tags = 0 ∷ 1 ∷ 2 ∷ 4 ∷ 6 ∷ 7 ∷ 8 ∷ 9 ∷ 10 ∷ []
 
--- with two
-pub other-two : (list x : List ℕ) (w : Word) → OneOf other-two-tags (tagOf word.the-type w) → withTwo w list x ≡ expected w
-unfolding withTwo
-other-two list x Show k = refl
-other-two list x Nybbles k = refl
-other-two list x Text k = refl
-other-two list x Dtai k = absurd (miss other-two-tags 3 tt k)
-other-two list x Tai k = refl
-other-two list x Utc k = absurd (miss other-two-tags 5 tt k)
-other-two list x Uts k = refl
-other-two list x Unsmooth k = refl
-other-two list x Other k = refl
+-- with a list and a number
+pub other-number : (list x : List ℕ) (w : Word) → OneOf other-number-tags (tagOf word.the-type w) → withNumber w list x ≡ expected w
+unfolding withNumber
+other-number list x Show k = refl
+other-number list x Nybbles k = refl
+other-number list x Text k = refl
+other-number list x Dtai k = absurd (miss other-number-tags 3 tt k)
+other-number list x Tai k = refl
+other-number list x Utc k = absurd (miss other-number-tags 5 tt k)
+other-number list x Uts k = refl
+other-number list x Unsmooth k = refl
+other-number list x Compare k = refl
+other-number list x Longer k = refl
+other-number list x Other k = refl
+
+abbrev other-two-tags : List ℕ
+other-two-tags = 0 ∷ 1 ∷ 2 ∷ 3 ∷ 4 ∷ 5 ∷ 6 ∷ 7 ∷ 10 ∷ []
+
+-- a word that does not go with two lists goes with a list and a number, or with neither
+pub other-two : (lines : Bool) (x y : List ℕ) (w : Word) → OneOf other-two-tags (tagOf word.the-type w) → withTwo lines w x y ≡ withNumber w x y
+unfolding withTwo withNumber
+other-two lines x y Show k = refl
+other-two lines x y Nybbles k = refl
+other-two lines x y Text k = refl
+other-two lines x y Dtai k = refl
+other-two lines x y Tai k = refl
+other-two lines x y Utc k = refl
+other-two lines x y Uts k = refl
+other-two lines x y Unsmooth k = refl
+other-two lines x y Compare k = absurd (miss other-two-tags 8 tt k)
+other-two lines x y Longer k = absurd (miss other-two-tags 9 tt k)
+other-two lines x y Other k = refl
 
 abbrev other-three-tags : List ℕ
-other-three-tags = 0 ∷ 1 ∷ 2 ∷ 3 ∷ 5 ∷ 8 ∷ []
+other-three-tags = 0 ∷ 1 ∷ 2 ∷ 3 ∷ 5 ∷ 8 ∷ 9 ∷ 10 ∷ []
 
 -- with three
 pub other-three : (list x y : List ℕ) (w : Word) → OneOf other-three-tags (tagOf word.the-type w) → withThree w list x y ≡ expected w
@@ -59,11 +82,13 @@ other-three list x y Tai k = absurd (miss other-three-tags 4 tt k)
 other-three list x y Utc k = refl
 other-three list x y Uts k = absurd (miss other-three-tags 6 tt k)
 other-three list x y Unsmooth k = absurd (miss other-three-tags 7 tt k)
+other-three list x y Compare k = refl
+other-three list x y Longer k = refl
 other-three list x y Other k = refl
 
 -- a field that is to be a number and is none
-pub no-number : (w : Word) (list x : List ℕ) → numberOf x ≡ Missing → withTwo w list x ≡ expected w
-unfolding withTwo
+pub no-number : (w : Word) (list x : List ℕ) → numberOf x ≡ Missing → withNumber w list x ≡ expected w
+unfolding withNumber
 no-number Show list x e = refl
 no-number Nybbles list x e = refl
 no-number Text list x e = refl
@@ -72,6 +97,8 @@ no-number Tai list x e = refl
 no-number Utc list x e = rw e
 no-number Uts list x e = refl
 no-number Unsmooth list x e = refl
+no-number Compare list x e = refl
+no-number Longer list x e = refl
 no-number Other list x e = refl
 
 pub no-first : (w : Word) (list x y : List ℕ) → numberOf x ≡ Missing → withThree w list x y ≡ expected w
@@ -84,6 +111,8 @@ no-first Tai list x y e = rw e
 no-first Utc list x y e = refl
 no-first Uts list x y e = rw e
 no-first Unsmooth list x y e = rw e
+no-first Compare list x y e = refl
+no-first Longer list x y e = refl
 no-first Other list x y e = refl
 
 pub no-second : (w : Word) (list x y : List ℕ) (n : ℕ) → numberOf x ≡ Given n → numberOf y ≡ Missing → withThree w list x y ≡ expected w
@@ -96,4 +125,6 @@ no-second Tai list x y n e f = rw (e, f)
 no-second Utc list x y n e f = refl
 no-second Uts list x y n e f = rw (e, f)
 no-second Unsmooth list x y n e f = rw (e, f)
+no-second Compare list x y n e f = refl
+no-second Longer list x y n e f = refl
 no-second Other list x y n e f = refl

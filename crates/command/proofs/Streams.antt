@@ -10,7 +10,7 @@ use lib.ListN.{length, take, drop, length-append}
 use lib.Seq.{length-take-le, drop-drop, take-append-le, drop-append-le, take-append-add, drop-append-add}
 use Rattle.format.specs.Parts.{firstPart}
 use Rattle.format.proofs.Cases.{by-bool}
-use Rattle.line.specs.Refusal.{newline}
+use Rattle.format.specs.Lines.{newline}
 use Rattle.command.specs.Answer.{maxAnswer, answerTo}
 use Rattle.command.specs.Lines.{linesOf, answerLine, answered, sizeOf}
 use Rattle.command.proofs.Fields.{long-line}

@@ -19,8 +19,9 @@ use Rattle.schedule.specs.Schedule.{leapsOf}
 use Rattle.text.specs.Bytes.{signByte}
 use Rattle.text.specs.Write.{digits, textFrom, textOf}
 use Rattle.line.specs.declared.words.Word.{Word}
-use Rattle.line.specs.declared.words.Word.the-variants.{Show, Nybbles, Text, Dtai, Tai, Utc, Uts, Unsmooth, Other}
-use Rattle.line.specs.Refusal.{newline, refusal, refusalAt, between}
+use Rattle.line.specs.declared.words.Word.the-variants.{Show, Nybbles, Text, Dtai, Tai, Utc, Uts, Unsmooth, Compare, Longer, Other}
+use Rattle.format.specs.Lines.{newline, between}
+use Rattle.line.specs.Refusal.{refusal, refusalAt}
 use Rattle.line.specs.Words.{usage, expected}
 use Rattle.show.specs.Show.{date, stretch, stretches, shown}
 
@@ -33,7 +34,7 @@ hasNo mark (b ∷ bs) = not (eqb b mark) && hasNo mark bs
 pub record Unbroken (bytes : List ℕ) : Type 0 where
   pub none : hasNo newline bytes ≡ true
 
-empty : Unbroken []
+pub empty : Unbroken []
 unfolding hasNo
 empty = record { none = refl }
 
@@ -92,7 +93,7 @@ gap : (g : ℕ) → Unbroken (digits g)
 unfolding digits
 gap g = search (either, digit, empty) depth 6
 
-sign : (s : Sign) → eqb (signByte s) newline ≡ false
+pub sign : (s : Sign) → eqb (signByte s) newline ≡ false
 sign Positive = refl
 sign Negative = refl
 
@@ -125,6 +126,8 @@ in-expected Tai = record { none = refl }
 in-expected Utc = record { none = refl }
 in-expected Uts = record { none = refl }
 in-expected Unsmooth = record { none = refl }
+in-expected Compare = record { none = refl }
+in-expected Longer = record { none = refl }
 in-expected Other = record { none = refl }
 
 -- ---- stretches
@@ -137,7 +140,7 @@ in-stretch : (s : Schedule) (from to : ℕ) → Unbroken (stretch s from to)
 unfolding stretch
 in-stretch s from to = search (append, more, in-date, with-sign)
 
-in-between : Unbroken (between false)
+pub in-between : Unbroken (between false)
 unfolding hasNo between
 in-between = record { none = refl }
 

@@ -17,11 +17,11 @@ use Rattle.text.specs.Write.{textOf}
 use Rattle.nybbles.specs.Read.{readNybbles}
 use Rattle.clock.specs.Question.{Question, DTAI, UTC-to-TAI, TAI-to-UTC, UTC-to-UTS, UTS-to-UTC}
 use Rattle.line.specs.declared.words.Word.{Word}
-use Rattle.line.specs.declared.words.Word.the-variants.{Show, Nybbles, Text, Dtai, Tai, Utc, Uts, Unsmooth, Other}
-use Rattle.line.specs.Refusal.{spaceByte}
+use Rattle.line.specs.declared.words.Word.the-variants.{Show, Nybbles, Text, Dtai, Tai, Utc, Uts, Unsmooth, Compare, Longer, Other}
+use Rattle.format.specs.Lines.{spaceByte}
 use Rattle.line.specs.Words.{wordOf, expected}
 use Rattle.show.specs.Show.{shown}
-use Rattle.answers.specs.Lists.{aboutRead, aboutList, nybblesAnswer}
+use Rattle.answers.specs.Lists.{aboutRead, aboutList, nybblesAnswer, comparisonAnswer, longerAnswer}
 use Rattle.answers.specs.Times.{askedUnder}
 
 -- an answer about the number that a field gives, or `otherwise` where it gives none
@@ -50,18 +50,22 @@ withOne lines Tai x = expected Tai
 withOne lines Utc x = expected Utc
 withOne lines Uts x = expected Uts
 withOne lines Unsmooth x = expected Unsmooth
+withOne lines Compare x = expected Compare
+withOne lines Longer x = expected Longer
 withOne lines Other x = expected Other
 
-unfoldable pub withTwo : Word → List ℕ → List ℕ → List ℕ
-withTwo Show list x = expected Show
-withTwo Nybbles list x = expected Nybbles
-withTwo Text list x = expected Text
-withTwo Dtai list x = aboutOne Dtai list x DTAI
-withTwo Tai list x = expected Tai
-withTwo Utc list x = aboutOne Utc list x TAI-to-UTC
-withTwo Uts list x = expected Uts
-withTwo Unsmooth list x = expected Unsmooth
-withTwo Other list x = expected Other
+unfoldable pub withTwo : Bool → Word → List ℕ → List ℕ → List ℕ
+withTwo lines Show list x = expected Show
+withTwo lines Nybbles list x = expected Nybbles
+withTwo lines Text list x = expected Text
+withTwo lines Dtai list x = aboutOne Dtai list x DTAI
+withTwo lines Tai list x = expected Tai
+withTwo lines Utc list x = aboutOne Utc list x TAI-to-UTC
+withTwo lines Uts list x = expected Uts
+withTwo lines Unsmooth list x = expected Unsmooth
+withTwo lines Compare list other = comparisonAnswer lines list other
+withTwo lines Longer list other = longerAnswer list other
+withTwo lines Other list x = expected Other
 
 unfoldable pub withThree : Word → List ℕ → List ℕ → List ℕ → List ℕ
 withThree Show list x y = expected Show
@@ -72,13 +76,15 @@ withThree Tai list x y = aboutTwo Tai list x y UTC-to-TAI
 withThree Utc list x y = expected Utc
 withThree Uts list x y = aboutTwo Uts list x y UTC-to-UTS
 withThree Unsmooth list x y = aboutTwo Unsmooth list x y UTS-to-UTC
+withThree Compare list x y = expected Compare
+withThree Longer list x y = expected Longer
 withThree Other list x y = expected Other
 
 -- the answer to a word with the fields after it
 abbrev pub answerFor : Bool → Word → List (List ℕ) → List ℕ
 answerFor lines w [] = expected w
 answerFor lines w (x ∷ []) = withOne lines w x
-answerFor lines w (x ∷ y ∷ []) = withTwo w x y
+answerFor lines w (x ∷ y ∷ []) = withTwo lines w x y
 answerFor lines w (x ∷ y ∷ z ∷ []) = withThree w x y z
 answerFor lines w (x ∷ y ∷ z ∷ u ∷ us) = expected w
 

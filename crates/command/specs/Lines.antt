@@ -8,7 +8,7 @@ use lib.Dec.{ltb}
 use lib.ListN.{length}
 use Rattle.format.specs.Output.{filled}
 use Rattle.format.specs.Parts.{parts}
-use Rattle.line.specs.Refusal.{newline}
+use Rattle.format.specs.Lines.{newline}
 use Rattle.command.specs.declared.Step.{Step}
 use Rattle.command.specs.Answer.{maxAnswer, answerTo}
 

@@ -3,14 +3,16 @@ ghost use Prim.Native.Nat.{_≤_};
 ghost use lib.ListN.{length};
 ghost use Rattle.format.specs.Output.{PutsUpTo};
 ghost use Rattle.format.specs.Parts.{parts};
-ghost use Rattle.line.specs.Refusal.{spaceByte};
+ghost use Rattle.format.specs.Lines.{spaceByte};
 ghost use Rattle.command.specs.Answer.{maxLine, maxAnswer, withOne, withTwo, withThree, answerFor, answerTo, Answered};
+ghost use Rattle.command.specs.Inner.{withNumber};
 ghost use Rattle.command.specs.Lines.{linesOf, answered, LinesAnswered};
 ghost use mathlib.Core.Bool.{Bool};
 ghost use mathlib.Core.List.{_∷_};
 
 mod lists; // lists.rt: a list as its stretches, and a nybble list as text
 
+use answers::pairs;
 use answers::times::Asked;
 use answers::times::put_asked;
 use clock::TaiMicros;
@@ -51,8 +53,8 @@ fn put_with_one(out: &mut [u8], at: usize, lines: bool, word: Word, x: &[u8]) ->
 }
 
 // Puts the answer to a word with a list and a number.
-fn put_with_two(out: &mut [u8], at: usize, word: Word, list: &[u8], x: &[u8]) -> usize
-    ensures { λ r. ⌜ PutsUpTo maxAnswer (now (out .entry)) (now (out .exit)) at r (withTwo word (now (list .entry)) (now (x .entry))) ⌝ }
+fn put_with_number(out: &mut [u8], at: usize, word: Word, list: &[u8], x: &[u8]) -> usize
+    ensures { λ r. ⌜ PutsUpTo maxAnswer (now (out .entry)) (now (out .exit)) at r (withNumber word (now (list .entry)) (now (x .entry))) ⌝ }
 {
     let read = read_decimal(x);
     let Number::Given(n) = read else {
@@ -62,6 +64,17 @@ fn put_with_two(out: &mut [u8], at: usize, word: Word, list: &[u8], x: &[u8]) ->
         Word::Dtai => put_asked(out, at, list, Asked::Dtai(n)),
         Word::Utc => put_asked(out, at, list, Asked::Utc(TaiMicros(n))),
         _ => put_expected(out, at, word),
+    }
+}
+
+// Puts the answer to a word with two fields: two lists, or a list and a number.
+fn put_with_two(out: &mut [u8], at: usize, lines: bool, word: Word, x: &[u8], y: &[u8]) -> usize
+    ensures { λ r. ⌜ PutsUpTo maxAnswer (now (out .entry)) (now (out .exit)) at r (withTwo lines word (now (x .entry)) (now (y .entry))) ⌝ }
+{
+    match word {
+        Word::Compare => pairs::put_comparison(out, at, lines, x, y),
+        Word::Longer => pairs::put_longer(out, at, x, y),
+        _ => put_with_number(out, at, word, x, y),
     }
 }
 
@@ -97,15 +110,15 @@ fn put_after_two(out: &mut [u8], at: usize, word: Word, x: &[u8], y: &[u8], rest
 }
 
 // Puts the answer to a word with a field and what follows it.
-fn put_after_one(out: &mut [u8], at: usize, word: Word, x: &[u8], rest: &[u8]) -> usize
-    ensures { λ r. ⌜ ((lines : Bool) → PutsUpTo maxAnswer (now (out .entry)) (now (out .exit)) at r (answerFor lines word (now (x .entry) ∷ parts spaceByte (now (rest .entry))))) ⌝ }
+fn put_after_one(out: &mut [u8], at: usize, lines: bool, word: Word, x: &[u8], rest: &[u8]) -> usize
+    ensures { λ r. ⌜ PutsUpTo maxAnswer (now (out .entry)) (now (out .exit)) at r (answerFor lines word (now (x .entry) ∷ parts spaceByte (now (rest .entry)))) ⌝ }
 {
     let end = part_end(rest, 0, b' ');
     if end < rest.len() {
         let next = end + 1;
         return put_after_two(out, at, word, x, &rest[..end], &rest[next..]);
     }
-    put_with_two(out, at, word, x, rest)
+    put_with_two(out, at, lines, word, x, rest)
 }
 
 // Puts the answer to a word with what follows it.
@@ -116,7 +129,7 @@ fn put_after_word(out: &mut [u8], at: usize, lines: bool, word: Word, rest: &[u8
     let end = part_end(rest, 0, b' ');
     if end < rest.len() {
         let next = end + 1;
-        return put_after_one(out, at, word, &rest[..end], &rest[next..]);
+        return put_after_one(out, at, lines, word, &rest[..end], &rest[next..]);
     }
     put_with_one(out, at, lines, word, rest)
 }

@@ -3,6 +3,7 @@ pub mod Cases
 pub mod Lists
 pub mod Bytes
 pub mod Putting
+pub mod LeftUpTo
 pub mod Digits
 pub mod Signs
 pub mod Integers

@@ -3,3 +3,4 @@ pub mod Output
 pub mod Decimal
 pub mod Hex
 pub mod Parts
+pub mod Lines

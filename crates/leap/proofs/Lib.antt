@@ -1,3 +1,5 @@
--- What a writer hands over, and that the two formats agree.
+-- What writers and the question of extension hand over, that the two formats agree, and what a contradiction means.
 pub mod Handed
 pub mod Formats
+pub mod Extension
+pub mod Contradiction

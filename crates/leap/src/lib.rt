@@ -3,19 +3,23 @@ use clock::TaiMicros;
 use clock::UtcMicros;
 use clock::UtsNanos;
 use clock::answers;
+use refusals::NOT_WELL_FORMED;
 ghost use Prim.Native.Nat.{min};
 ghost use lib.ListN.{length};
 ghost use Rattle.text.specs.Read.{readText};
 ghost use Rattle.text.specs.Write.{textOf};
 ghost use Rattle.nybbles.specs.Read.{readNybbles};
 ghost use Rattle.nybbles.specs.Write.{nybblesOf};
+ghost use Rattle.compare.specs.Compare.{comparing, comparedInto};
+ghost use Rattle.compare.specs.Longer.{chosen, HandsBack};
+ghost use mathlib.Core.Path.{_≡_};
 ghost use lib.IntN.{pos};
 ghost use Rattle.clock.specs.Answers.{HandsValue, HandsUtc};
 ghost use Rattle.clock.specs.Many.{answerAt, answersAt, HandsMany, HandsManyUtc};
 ghost use Rattle.clock.specs.Question.{dtaiOn, utcToTai, taiToUtc, utcToUts, utsToUtc};
 ghost use Rattle.schedule.specs.WordLayout.{meant};
 ghost use Rattle.schedule.specs.Answers.{HandsReading};
-ghost use Rattle.leap.specs.Calls.{HandsWriting};
+ghost use Rattle.leap.specs.Calls.{HandsBytes, HandsWriting, yesOf, extension};
 
 // Reads a compact text list.
 #[no_mangle]
@@ -51,6 +55,57 @@ pub extern "C" fn leap_write_nybbles(words: &[u32; 514], out: &mut [u8], count: 
     let w = nybbles::write_nybbles(schedule::of_words(words), out);
     *count = w.count as u64;
     w.number
+}
+
+// Compares two text lists.
+#[no_mangle]
+pub extern "C" fn leap_compare_text(
+    first: &[u8],
+    second: &[u8],
+    out: &mut [u8],
+    count: &mut u64,
+) -> u8
+    ensures { λ n. ⌜ HandsBytes (comparing (now (first .entry)) (now (second .entry)) (length (now (out .entry)))) (comparedInto (now (first .entry)) (now (second .entry)) (now (out .entry))) n (now (count .exit)) (now (out .exit)) ⌝ }
+{
+    let w = compare::lines::compare_text(first, second, out);
+    *count = w.count as u64;
+    w.number
+}
+
+// Hands back the caller's own bytes of the longer of two text lists.
+#[no_mangle]
+pub extern "C" fn leap_longer_text<'a>(first: &'a [u8], second: &'a [u8], part: &mut &'a [u8]) -> u8
+    ensures { λ n. ⌜ HandsBack (chosen (now (first .entry)) (now (second .entry))) (first .entry) (second .entry) (now (part .exit)) n ⌝ }
+{
+    let mut number: u8 = 0;
+    *part = compare::longer::longer(first, second, &mut number);
+    number
+}
+
+// 1 for yes and 0 for no.
+fn yes_of(b: bool) -> u8
+    ensures { λ r. ⌜ r ≡ yesOf b ⌝ }
+{
+    if b { 1 } else { 0 }
+}
+
+// Whether a list extends another.
+#[no_mangle]
+pub extern "C" fn leap_extends(longer: &[u32; 514], shorter: &[u32; 514], yes: &mut u8) -> u8
+    ensures { λ n. ⌜ HandsValue 0 (extension (meant (now (longer .entry))) (meant (now (shorter .entry)))) n (now (yes .exit)) ⌝ }
+{
+    if !schedule::is_list(longer) {
+        *yes = 0;
+        return NOT_WELL_FORMED;
+    }
+    if !schedule::is_list(shorter) {
+        *yes = 0;
+        return NOT_WELL_FORMED;
+    }
+    let l = schedule::of_words(longer);
+    let s = schedule::of_words(shorter);
+    *yes = yes_of(schedule::extends(l, s));
+    0
 }
 
 // DTAI for a date.

@@ -17,6 +17,8 @@ leapsec tai LIST MJD MICROS      UTC to TAI\n\
 leapsec utc LIST TAI             TAI to UTC: MJD MICROS\n\
 leapsec uts LIST MJD MICROS      UTC to smoothed time: NANOS\n\
 leapsec unsmooth LIST MJD NANOS  smoothed time to UTC: MICROS\n\
+leapsec compare LIST LIST        where two lists part, and whether one extends the other\n\
+leapsec longer LIST LIST         of two lists the one that extends the other\n\
 leapsec ask                      a question a line from standard input, an answer a line\n\
 leapsec help WORD                more about one of these words, with an example\n\
 \n\
@@ -28,10 +30,12 @@ NANOS   nanoseconds of a smoothed day, which always has 86,400 seconds\n\
 TAI     microseconds from 1972-01-01 00:00:00 TAI\n\
 \n\
 What is no question is answered by ? and what was expected, a refused one by ! and a number,\n\
-and where a list does not read also the place in it:\n\
+and where a list does not read also the place in it; longer gives no place, and compare the\n\
+number alone:\n\
 1 list ends early            4 past month 2400          8 before 1972\n\
 2 byte not allowed there     5 more than 256 leaps      9 no such instant\n\
-3 gap malformed or over 999  6 something after the end  10 expired or not yet known\n",
+3 gap malformed or over 999  6 something after the end  10 expired or not yet known\n\
+16 two lists contradict each other\n",
     );
 }
 
@@ -118,10 +122,37 @@ $ leapsec unsmooth '6+5?' 41498 86399001000000\n\
     );
 }
 
+fn print_compare() {
+    write(
+        b"leapsec compare LIST LIST\n\
+A line for each month, from 0 (January 1972) on, at which either list has a leap and their marks differ:\n\
+the month, the first list's mark and the second's. A mark is + or -, 0 for no leap, or ? at and after the\n\
+list's expiry. Then, if the expiries differ, = and both. Then how the lists stand to each other: same,\n\
+extends 1 (the first extends the second), extends 2 or contradict.\n\
+\n\
+$ leapsec compare '6+6+5?' '6+12+5?'\n\
+12 + 0\n\
+18 ? +\n\
+= 17 23\n\
+contradict\n",
+    );
+}
+
+fn print_longer() {
+    write(
+        b"leapsec longer LIST LIST\n\
+Of two lists the one that extends the other, the first if they are the same; !16 if they contradict each other.\n\
+\n\
+$ leapsec longer '6+5?' '6+6+5?'\n\
+6+6+5?\n",
+    );
+}
+
 fn print_ask() {
     write(
         b"leapsec ask\n\
-Answers the questions on standard input, one a line, by one line each. Between the lines of show stands `; `.\n\
+Answers the questions on standard input, one a line, by one line each. Between the lines of show and of\n\
+compare stands `; `.\n\
 \n\
 $ printf 'dtai current 57753\\nshow 5?\\n' | leapsec ask\n\
 36\n\
@@ -132,7 +163,8 @@ $ printf 'dtai current 57753\\nshow 5?\\n' | leapsec ask\n\
 fn print_help() {
     write(
         b"leapsec help WORD\n\
-More about a word: show, nybbles, text, dtai, tai, utc, uts, unsmooth, ask or help. Without one, all of them.\n\
+More about a word: show, nybbles, text, dtai, tai, utc, uts, unsmooth, compare, longer, ask or help. Without\n\
+one, all of them.\n\
 \n\
 $ leapsec help utc | head -n 1\n\
 leapsec utc LIST TAI\n",
@@ -150,7 +182,7 @@ fn print_own(word: &[u8]) {
         return;
     }
     write(
-        b"? expected: help WORD, WORD being show, nybbles, text, dtai, tai, utc, uts, unsmooth, ask or help\n",
+        b"? expected: help WORD, WORD being show, nybbles, text, dtai, tai, utc, uts, unsmooth, compare, longer, ask or help\n",
     );
 }
 
@@ -165,6 +197,8 @@ pub(crate) fn print_word(word: &[u8]) {
         Word::Utc => print_utc(),
         Word::Uts => print_uts(),
         Word::Unsmooth => print_unsmooth(),
+        Word::Compare => print_compare(),
+        Word::Longer => print_longer(),
         Word::Other => print_own(word),
     }
 }

@@ -70,7 +70,9 @@ fn run_own(word: &[u8], rest: &[u8]) {
         run_help(rest);
         return;
     }
-    write(b"? expected: show, nybbles, text, dtai, tai, utc, uts, unsmooth, ask or help\n");
+    write(
+        b"? expected: show, nybbles, text, dtai, tai, utc, uts, unsmooth, compare, longer, ask or help\n",
+    );
 }
 
 // Answers a line: a question, or a word of the program's own.

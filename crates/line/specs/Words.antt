@@ -6,7 +6,7 @@ use mathlib.Core.List.{List, _++_}
 use Rattle.format.specs.Ascii.{ascii}
 use Rattle.format.specs.Parts.{same}
 use Rattle.line.specs.declared.words.Word.{Word}
-use Rattle.line.specs.declared.words.Word.the-variants.{Show, Nybbles, Text, Dtai, Tai, Utc, Uts, Unsmooth, Other}
+use Rattle.line.specs.declared.words.Word.the-variants.{Show, Nybbles, Text, Dtai, Tai, Utc, Uts, Unsmooth, Compare, Longer, Other}
 
 -- the word that a field is
 unfoldable pub wordOf : List ℕ → Word
@@ -19,7 +19,9 @@ wordOf field =
     (cond (same field (ascii "utc")) Utc
     (cond (same field (ascii "uts")) Uts
     (cond (same field (ascii "unsmooth")) Unsmooth
-    Other)))))))
+    (cond (same field (ascii "compare")) Compare
+    (cond (same field (ascii "longer")) Longer
+    Other)))))))))
 
 -- how a question goes
 unfoldable pub usage : Word → List ℕ
@@ -31,7 +33,9 @@ usage Tai = ascii "tai LIST MJD MICROS"
 usage Utc = ascii "utc LIST TAI"
 usage Uts = ascii "uts LIST MJD MICROS"
 usage Unsmooth = ascii "unsmooth LIST MJD NANOS"
-usage Other = ascii "show, nybbles, text, dtai, tai, utc, uts or unsmooth"
+usage Compare = ascii "compare LIST LIST"
+usage Longer = ascii "longer LIST LIST"
+usage Other = ascii "show, nybbles, text, dtai, tai, utc, uts, unsmooth, compare or longer"
 
 -- the answer to what is no question
 unfoldable pub expected : Word → List ℕ

@@ -1,7 +1,7 @@
-// Refusals as an answer has them, and what stands between the lines of an answer.
+// Refusals as an answer has them.
 ghost use mathlib.Core.Path.{_≡_};
 ghost use Rattle.format.specs.Output.{PutsUpTo};
-ghost use Rattle.line.specs.Refusal.{refusal, refusalAt, between};
+ghost use Rattle.line.specs.Refusal.{refusal, refusalAt};
 use format::decimal::put_decimal;
 use format::output::put;
 
@@ -26,15 +26,4 @@ pub fn put_refusal_at(out: &mut [u8], at: usize, number: u8, place: usize) -> us
     let a = put_refusal(out, at, number);
     let b = put(out, a, b' ');
     put_decimal(out, b, place as u64)
-}
-
-// Puts what stands between the lines of an answer: LF, or `; ` where the answer is to be one line.
-pub fn put_between(out: &mut [u8], at: usize, lines: bool) -> usize
-    ensures { λ r. ⌜ PutsUpTo 2 (now (out .entry)) (now (out .exit)) at r (between lines) ⌝ }
-{
-    if lines {
-        return put(out, at, b'\n');
-    }
-    let next = put(out, at, b';');
-    put(out, next, b' ')
 }

@@ -14,6 +14,8 @@ pub enum Word {
     Utc,
     Uts,
     Unsmooth,
+    Compare,
+    Longer,
     Other,
 }
 
@@ -45,12 +47,18 @@ pub fn word_of(field: &[u8]) -> Word
     if same(field, b"unsmooth") {
         return Word::Unsmooth;
     }
+    if same(field, b"compare") {
+        return Word::Compare;
+    }
+    if same(field, b"longer") {
+        return Word::Longer;
+    }
     Word::Other
 }
 
 // Puts how a question goes.
 fn put_usage(out: &mut [u8], at: usize, word: Word) -> usize
-    ensures { λ r. ⌜ PutsUpTo 60 (now (out .entry)) (now (out .exit)) at r (usage word) ⌝ }
+    ensures { λ r. ⌜ PutsUpTo 70 (now (out .entry)) (now (out .exit)) at r (usage word) ⌝ }
 {
     match word {
         Word::Show => put_all(out, at, b"show LIST"),
@@ -61,17 +69,19 @@ fn put_usage(out: &mut [u8], at: usize, word: Word) -> usize
         Word::Utc => put_all(out, at, b"utc LIST TAI"),
         Word::Uts => put_all(out, at, b"uts LIST MJD MICROS"),
         Word::Unsmooth => put_all(out, at, b"unsmooth LIST MJD NANOS"),
+        Word::Compare => put_all(out, at, b"compare LIST LIST"),
+        Word::Longer => put_all(out, at, b"longer LIST LIST"),
         Word::Other => put_all(
             out,
             at,
-            b"show, nybbles, text, dtai, tai, utc, uts or unsmooth",
+            b"show, nybbles, text, dtai, tai, utc, uts, unsmooth, compare or longer",
         ),
     }
 }
 
 // Puts the answer to what is no question.
 pub fn put_expected(out: &mut [u8], at: usize, word: Word) -> usize
-    ensures { λ r. ⌜ PutsUpTo 80 (now (out .entry)) (now (out .exit)) at r (expected word) ⌝ }
+    ensures { λ r. ⌜ PutsUpTo 90 (now (out .entry)) (now (out .exit)) at r (expected word) ⌝ }
 {
     let next = put_all(out, at, b"? expected: ");
     put_usage(out, next, word)

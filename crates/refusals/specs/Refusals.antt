@@ -1,4 +1,4 @@
--- "The eleven numbers": the names of the refusals. An accepted answer carries 0.
+-- "The eleven numbers", and those that the change requests add: the names of the refusals. An accepted answer carries 0.
 -- Assumes nothing: these are definitions.
 use Prim.Native.Nat.{ℕ}
 
@@ -45,3 +45,7 @@ notKnown = 10
 -- 11: the schedule is not well formed
 abbrev pub notWellFormed : ℕ
 notWellFormed = 11
+
+-- 16: two lists contradict each other
+abbrev pub contradiction : ℕ
+contradiction = 16

@@ -1,4 +1,4 @@
-// The eleven refusals by name. An accepted answer carries 0.
+// The refusals by name. An accepted answer carries 0.
 
 // The list ends early.
 pub const ENDS_EARLY: u8 = 1;
@@ -32,3 +32,6 @@ pub const NOT_KNOWN: u8 = 10;
 
 // The schedule is not well formed.
 pub const NOT_WELL_FORMED: u8 = 11;
+
+// Two lists contradict each other.
+pub const CONTRADICTION: u8 = 16;

@@ -1,4 +1,4 @@
--- The three answers of a writer whose list of a schedule is `bytes`.
+-- The answers of a writer: of bytes that fit or do not, and of the list of a schedule.
 -- Assumes nothing.
 use mathlib.Core.Path.{_≡_, ap, _∙_}
 use mathlib.Core.Bool.{true, false}
@@ -11,27 +11,44 @@ use borrow.Author.Tests.{le-leb, lt-leb}
 use Rattle.schedule.specs.declared.Schedule.{Schedule}
 use Rattle.schedule.specs.declared.Writing.{Writing}
 use Rattle.schedule.specs.Schedule.{wellFormed}
-use Rattle.schedule.specs.Answers.{writing, written}
+use Rattle.schedule.specs.Answers.{unwritten, fitting, fitted, writing, written}
+
+module _ (bytes out : List ℕ) where
+  -- what writing bytes promises of its answer and of the output
+  abbrev pub Fits : Writing → List ℕ → Type 0
+  Fits r exit = (r ≡ fitting bytes (length out)) × (exit ≡ fitted bytes out)
+
+  -- there is room, and the bytes are stored from the start
+  pub fits : (n : ℕ) → n ≡ length bytes → n ≤ length out → (exit : List ℕ) → exit ≡ sets out 0 bytes → Fits (record { number = 0; count = n }) exit
+  unfolding fitting fitted
+  fits n e h exit x =
+      let l : length bytes ≤ length out = omega arith in
+      let z : 0 + length bytes ≡ length bytes = omega arith in
+      let y : exit ≡ bytes ++ drop (length bytes) out = x ∙ (sets-eq bytes out 0 (omega arith) ∙ ap (λ (k : ℕ). bytes ++ drop k out) z) in
+      (simp (le-leb (length bytes) (length out) l, e), simp (le-leb (length bytes) (length out) l) y)
+
+  -- or there is none
+  pub no-room : (n : ℕ) → n ≡ length bytes → length out < n → Fits (unwritten 7) out
+  unfolding fitting fitted
+  no-room n e h =
+      let l : length out < length bytes = omega arith in
+      (simp (lt-leb (length bytes) (length out) l), simp (lt-leb (length bytes) (length out) l))
 
 -- what a writer promises of its answer and of the output
 abbrev pub Answer : Schedule → List ℕ → List ℕ → Writing → List ℕ → Type 0
 Answer s bytes out r exit = (r ≡ writing s bytes (length out)) × (exit ≡ written s bytes out)
 
 module _ (s : Schedule) (bytes out : List ℕ) where
+  formed : wellFormed s ≡ true → {r : Writing} {exit : List ℕ} → Fits bytes out r exit → Answer s bytes out r exit
+  unfolding writing written
+  formed w f = (rw w (f .0), rw w (f .1))
+
   pub taken : wellFormed s ≡ true → (n : ℕ) → n ≡ length bytes → n ≤ length out → (exit : List ℕ) → exit ≡ sets out 0 bytes
       → Answer s bytes out (record { number = 0; count = n }) exit
-  unfolding writing written
-  taken w n e h exit x =
-      let l : length bytes ≤ length out = omega arith in
-      let z : 0 + length bytes ≡ length bytes = omega arith in
-      let y : exit ≡ bytes ++ drop (length bytes) out = x ∙ (sets-eq bytes out 0 (omega arith) ∙ ap (λ (k : ℕ). bytes ++ drop k out) z) in
-      (simp (w, le-leb (length bytes) (length out) l, e), simp (w, le-leb (length bytes) (length out) l) y)
+  taken w n e h exit x = formed w (fits bytes out n e h exit x)
 
   pub short : wellFormed s ≡ true → (n : ℕ) → n ≡ length bytes → length out < n → Answer s bytes out (record { number = 7; count = 0 }) out
-  unfolding writing written
-  short w n e h =
-      let l : length out < length bytes = omega arith in
-      (simp (w, lt-leb (length bytes) (length out) l), simp (w, lt-leb (length bytes) (length out) l))
+  short w n e h = formed w (no-room bytes out n e h)
 
   pub wrong : wellFormed s ≡ false → Answer s bytes out (record { number = 11; count = 0 }) out
   unfolding writing written

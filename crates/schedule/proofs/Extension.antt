@@ -9,14 +9,15 @@ use native.Mathlib.Nat.{le-of-suc-le-suc, not-suc-le-zero}
 use native.Mathlib.Omega.{arith}
 use lib.Dec.{leb, eqb}
 use lib.ListN.{length, getD, drop, drop-of-length-le}
-use borrow.Author.Tests.{lt-ltb, le-ltb, leb-true, le-leb, eqb-true, eqb-false, eq-eqb, ne-eqb}
+use borrow.Author.Tests.{leb-true, le-leb, eqb-true, eqb-false, eq-eqb, ne-eqb}
 use Rattle.schedule.specs.declared.Sign.{Sign}
 use Rattle.schedule.specs.declared.Sign.the-variants.{Positive, Negative}
 use Rattle.schedule.specs.declared.Leap.{Leap}
 use Rattle.schedule.specs.declared.Schedule.{Schedule}
-use Rattle.schedule.specs.Schedule.{noLeap, leapsOf, gapsFit, wellFormed}
+use Rattle.schedule.specs.Schedule.{noLeap, leapsOf, isExpired, gapsFit, wellFormed}
 use Rattle.schedule.proofs.Cases.{by-bool}
 use Rattle.schedule.proofs.Gaps.{later, before-end, parts}
+use Rattle.schedule.proofs.Expired.{not-expired}
 use Rattle.schedule.proofs.Formed.{in-use}
 use Rattle.schedule.specs.Extends.{below, Extends, sameSign, sameLeap, sameLeaps, extends}
 
@@ -48,24 +49,24 @@ module _ (l s : Schedule) (i j : ℕ) where
 
   module _ (h : i < length (leapsOf l)) where
     -- a leap at the shorter list's expiry or after it is passed over
-    pub passed : s .expiry ≤ getD (l .leaps) i noLeap .month → left l s i j ≡ left l s (i + 1) j
+    pub passed : isExpired (s .expiry) (getD (l .leaps) i noLeap .month) ≡ true → left l s i j ≡ left l s (i + 1) j
     unfolding below
-    passed e = rw (in-use l i h) (simp (le-ltb (getD (l .leaps) i noLeap .month) (s .expiry) e))
+    passed e = rw (in-use l i h) (simp e)
 
-    module _ (e : getD (l .leaps) i noLeap .month < s .expiry) where
+    module _ (e : isExpired (s .expiry) (getD (l .leaps) i noLeap .month) ≡ false) where
       -- one below it must stand in the shorter list too
       pub missing : length (leapsOf s) ≤ j → left l s i j ≡ false
       unfolding below sameLeaps
-      missing g = rw (in-use l i h, drop-of-length-le (leapsOf s) g) (simp (lt-ltb (getD (l .leaps) i noLeap .month) (s .expiry) e))
+      missing g = rw (in-use l i h, drop-of-length-le (leapsOf s) g) (simp e)
 
       module _ (g : j < length (leapsOf s)) where
         pub agrees : sameLeap (getD (l .leaps) i noLeap) (getD (s .leaps) j noLeap) ≡ true → left l s i j ≡ left l s (i + 1) (j + 1)
         unfolding below sameLeaps
-        agrees t = rw (in-use l i h, in-use s j g) (simp (lt-ltb (getD (l .leaps) i noLeap .month) (s .expiry) e, t))
+        agrees t = rw (in-use l i h, in-use s j g) (simp (e, t))
 
         pub differs : sameLeap (getD (l .leaps) i noLeap) (getD (s .leaps) j noLeap) ≡ false → left l s i j ≡ false
         unfolding below sameLeaps
-        differs t = rw (in-use l i h, in-use s j g) (simp (lt-ltb (getD (l .leaps) i noLeap .month) (s .expiry) e, t))
+        differs t = rw (in-use l i h, in-use s j g) (simp (e, t))
 
 same-sign : (a b : Sign) → sameSign a b ≡ true → a ≡ b
 same-sign Positive Positive h = refl
@@ -100,7 +101,7 @@ unfolding below
 all-below [] from expiry f = refl
 all-below (l ∷ ls) from expiry f =
     let rest = later from l ls expiry f in
-    rw (lt-ltb (l .month) expiry (before-end ls (l .month) expiry rest), all-below ls (l .month) expiry rest)
+    rw (not-expired expiry (l .month) (before-end ls (l .month) expiry rest), all-below ls (l .month) expiry rest)
 
 -- equal lists extend each other
 pub extends-itself : (s : Schedule) → wellFormed s ≡ true → Extends s s
@@ -114,3 +115,10 @@ extends-means l s = (
       record { same = same-leaps (below (s .expiry) (leapsOf l)) (leapsOf s) (a .1); later = leb-true (s .expiry) (l .expiry) (a .0) },
   λ x. rw (le-leb (s .expiry) (l .expiry) (x .later), x .same) (leaps-same (leapsOf s)),
 )
+
+-- the test and the statement
+pub means : {a b : Schedule} → extends a b ≡ true → Extends a b
+means {a} {b} h = extends-means a b .0 h
+
+pub tests : {a b : Schedule} → Extends a b → extends a b ≡ true
+tests {a} {b} x = extends-means a b .1 x

@@ -1,6 +1,7 @@
 -- The laws of schedules that the crates above cite.
 pub mod Cases
 pub mod Gaps
+pub mod Expired
 pub mod Formed
 pub mod WordLayout
 pub mod Faults
@@ -12,5 +13,7 @@ pub mod SoFar
 pub mod Meant
 pub mod Stand
 pub mod Answers
+pub mod ByReading
 pub mod Extension
+pub mod Order
 pub mod Stores

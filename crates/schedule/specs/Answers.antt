@@ -2,9 +2,9 @@
 -- Assumes nothing: these are definitions.
 use Prim.Native.Nat.{ℕ, _+_}
 use mathlib.Core.Path.{_≡_}
-use mathlib.Core.Bool.{_&&_, cond}
+use mathlib.Core.Bool.{cond}
 use mathlib.Core.List.{List, _++_}
-use lib.Dec.{leb}
+use lib.Dec.{leb, eqb}
 use lib.ListN.{length, drop, set}
 use Rattle.refusals.specs.Refusals.{outputShort, notWellFormed}
 use Rattle.schedule.specs.declared.Sign.{Sign}
@@ -22,6 +22,10 @@ refusal n p = record { number = n; place = p; schedule = blankSchedule }
 abbrev pub accepted : Schedule → ℕ → Reading
 accepted s expiry = record { number = 0; place = 0; schedule = record { leaps = s .leaps; count = s .count; expiry = expiry } }
 
+-- an answer about the schedule that was read, or what is made of the number and the place of its refusal
+unfoldable pub byReading : {A : Type 0} → Reading → (ℕ → ℕ → A) → (Schedule → A) → A
+byReading r refuse f = cond (eqb (r .number) 0) (f (r .schedule)) (refuse (r .number) (r .place))
+
 -- one leap more, in the first place that is not in use
 abbrev pub withLeap : Schedule → ℕ → Sign → Schedule
 withLeap s m g = record { leaps = set (s .leaps) (s .count) (record { month = m; sign = g }); count = s .count + 1; expiry = s .expiry }
@@ -32,13 +36,22 @@ pub record HandsReading (reading : Reading) (number : ℕ) (words : List ℕ) (p
   pub its-words : words ≡ wordsOf (reading .schedule)
   pub its-place : place ≡ reading .place
 
+-- a writer that refuses returns the number and 0 bytes
+abbrev pub unwritten : ℕ → Writing
+unwritten n = record { number = n; count = 0 }
+
+-- what writing bytes answers: 7 where the output has no room for them, else their count
+unfoldable pub fitting : List ℕ → ℕ → Writing
+fitting bytes room = cond (leb (length bytes) room) (record { number = 0; count = length bytes }) (unwritten outputShort)
+
+-- what the output then holds: the bytes and, beyond them, what it held; what it held where it has no room for them
+unfoldable pub fitted : List ℕ → List ℕ → List ℕ
+fitted bytes out = cond (leb (length bytes) (length out)) (bytes ++ drop (length bytes) out) out
+
 -- what a writer answers whose list of a schedule is `bytes`: refusal 11, then 7, else the count of bytes
 unfoldable pub writing : Schedule → List ℕ → ℕ → Writing
-writing s bytes room =
-    cond (wellFormed s)
-    (cond (leb (length bytes) room) (record { number = 0; count = length bytes }) (record { number = outputShort; count = 0 }))
-    (record { number = notWellFormed; count = 0 })
+writing s bytes room = cond (wellFormed s) (fitting bytes room) (unwritten notWellFormed)
 
 -- what the output then holds: the list and, beyond it, what it held; what it held where the writer refuses
 unfoldable pub written : Schedule → List ℕ → List ℕ → List ℕ
-written s bytes out = cond (wellFormed s && leb (length bytes) (length out)) (bytes ++ drop (length bytes) out) out
+written s bytes out = cond (wellFormed s) (fitted bytes out) out

@@ -5,17 +5,17 @@ use Prim.Native.Nat.{ℕ, _≤_}
 use mathlib.Core.Path.{_≡_}
 use mathlib.Core.Bool.{Bool, true, false, _&&_, cond}
 use mathlib.Core.List.{List, [], _∷_}
-use lib.Dec.{ltb, leb, eqb}
+use lib.Dec.{leb, eqb}
 use Rattle.schedule.specs.declared.Sign.{Sign}
 use Rattle.schedule.specs.declared.Sign.the-variants.{Positive, Negative}
 use Rattle.schedule.specs.declared.Leap.{Leap}
 use Rattle.schedule.specs.declared.Schedule.{Schedule}
-use Rattle.schedule.specs.Schedule.{leapsOf}
+use Rattle.schedule.specs.Schedule.{leapsOf, isExpired}
 
--- the leaps below a month
+-- the leaps below an expiry
 unfoldable pub below : ℕ → List Leap → List Leap
-below month [] = []
-below month (l ∷ ls) = cond (ltb (l .month) month) (l ∷ below month ls) (below month ls)
+below expiry [] = []
+below expiry (l ∷ ls) = cond (isExpired expiry (l .month)) (below expiry ls) (l ∷ below expiry ls)
 
 -- "extends": the longer list's leaps below the shorter one's expiry month are the shorter one's leaps, all of them, equal in month and sign,
 -- and its own expiry is no earlier

@@ -31,6 +31,10 @@ blankSchedule = record { leaps = replicate maxLeaps noLeap; count = 0; expiry = 
 abbrev pub leapsOf : Schedule → List Leap
 leapsOf s = take (s .count) (s .leaps)
 
+-- a month is at or after an expiry: of such a month nothing is known
+unfoldable pub isExpired : ℕ → ℕ → Bool
+isExpired expiry month = leb expiry month
+
 -- a gap from one month to a later one is 1 to 999
 abbrev pub gapFits : ℕ → ℕ → Bool
 gapFits from to = ltb from to && leb (to - from) maxGap

@@ -4,7 +4,7 @@ ghost use mathlib.Core.Bool.{true, _&&_};
 ghost use Prim.Native.Nat.{_≤_};
 ghost use lib.Dec.{ltb};
 ghost use lib.ListN.{length};
-ghost use Rattle.schedule.specs.Schedule.{maxLeaps, blankSchedule, leapsOf, wellFormed};
+ghost use Rattle.schedule.specs.Schedule.{maxLeaps, blankSchedule, leapsOf, isExpired, wellFormed};
 ghost use Rattle.schedule.specs.Extends.{sameSign, sameLeap, extends};
 ghost use Rattle.schedule.specs.WordLayout.{standForLeaps, leapBy, laidOut, meant, wordOfSign};
 ghost use Rattle.schedule.specs.Answers.{refusal, HandsReading};
@@ -258,6 +258,13 @@ fn in_use(s: Schedule) -> usize
     if count < MAX_LEAPS { count } else { MAX_LEAPS }
 }
 
+// Whether a month is at or after an expiry.
+pub fn is_expired(expiry: u32, month: u32) -> bool
+    ensures { λ r. ⌜ r ≡ isExpired expiry month ⌝ }
+{
+    expiry <= month
+}
+
 // Whether a list extends another; any values at all may be given.
 pub fn extends(longer: Schedule, shorter: Schedule) -> bool
     ensures { λ r. ⌜ r ≡ extends longer shorter ⌝ }
@@ -272,7 +279,7 @@ pub fn extends(longer: Schedule, shorter: Schedule) -> bool
     let mut j: usize = 0;
     while i < n {
         let l = longer.leaps[i];
-        if expiry <= wide(l.month) {
+        if is_expired(expiry, wide(l.month)) {
             i += 1;
         } else {
             if m <= j {

@@ -7,32 +7,15 @@ use Prim.Native.Nat.{ℕ, _+_, _-_, _*_, _≤_, _<_}
 use native.Mathlib.Omega.{arith}
 use lib.ListN.{length, getD, drop, drop-of-length-le}
 use Rattle.format.specs.Output.{PutsUpTo}
-use Rattle.format.proofs.Putting.{nothing, up-to}
-use Rattle.line.specs.Refusal.{between}
+use Rattle.format.proofs.Putting.{up-to}
+use Rattle.format.proofs.LeftUpTo.{LeftUpTo, none-yet, more, with-rest}
+use Rattle.format.specs.Lines.{between}
 use Rattle.schedule.specs.declared.Schedule.{Schedule}
 use Rattle.schedule.specs.Schedule.{noLeap, leapsOf, gapsFit, wellFormed}
 use Rattle.schedule.proofs.Gaps.{fits-lt, first, later, before-end, parts}
 use Rattle.schedule.proofs.Formed.{in-use, used}
 use Rattle.show.specs.Show.{stretch, stretches}
 use Rattle.show.specs.Inner.{shownFrom}
-
--- of the bytes `whole`, all but `rest` are put, and those are at most so many
-pub record LeftUpTo (most : ℕ) (start out : List ℕ) (at next : ℕ) (whole rest : List ℕ) : Type 0 where
-  pub done : List ℕ
-  pub puts : PutsUpTo most start out at next done
-  pub makes : done ++ rest ≡ whole
-
-none-yet : (out : List ℕ) (at : ℕ) (whole : List ℕ) → LeftUpTo 0 out out at at whole whole
-none-yet out at whole = record { done = []; puts = record { puts = nothing out at; short = omega arith }; makes = refl }
-
-more : {most m n : ℕ} {start out out′ : List ℕ} {at next next′ : ℕ} {whole rest xs rest′ : List ℕ} → LeftUpTo m start out at next whole rest
-    → PutsUpTo n out out′ next next′ xs → rest ≡ xs ++ rest′ → m + n ≤ most → LeftUpTo most start out′ at next′ whole rest′
-more {xs = xs} {rest′ = rest′} l p e h =
-    record { done = l .done ++ xs; puts = up-to (l .puts) p refl h; makes = append-assoc (l .done) xs rest′ ∙ rw (← e) (l .makes) }
-
-all : {most m n : ℕ} {start out out′ : List ℕ} {at next next′ : ℕ} {whole rest : List ℕ} → LeftUpTo m start out at next whole rest
-    → PutsUpTo n out out′ next next′ rest → m + n ≤ most → PutsUpTo most start out′ at next′ whole
-all l p h = up-to (l .puts) p (sym (l .makes)) h
 
 -- the month of the leap at a place
 abbrev monthAt : Schedule → ℕ → ℕ
@@ -56,7 +39,7 @@ pub record Going (lines : Bool) (s : Schedule) (start out : List ℕ) (at next f
   pub left : LeftUpTo (i * 77) start out at next (shownFrom lines s 0 (leapsOf s)) (shownFrom lines s from (drop i (leapsOf s)))
 
 pub begin : (lines : Bool) (s : Schedule) (out : List ℕ) (at : ℕ) → wellFormed s ≡ true → length (s .leaps) ≡ 256 → Going lines s out out at at 0 0
-begin lines s out at w full = record { well = w; full = full; inside = omega arith; gaps = parts s w .gaps; left = none-yet out at _ }
+begin lines s out at w full = record { well = w; full = full; inside = omega arith; gaps = parts s w .gaps; left = none-yet out at refl }
 
 -- with each leap fewer are left
 pub fewer : {i n : ℕ} → i < n → n - (i + 1) < n - i
@@ -108,4 +91,4 @@ module _ {lines : Bool} {s : Schedule} {start out : List ℕ} {at next from i : 
   ended h {out′} {next′} p =
       let over : length (leapsOf s) ≤ i = omega (arith, many) in
       let rest : PutsUpTo 111 out out′ next next′ (shownFrom lines s from (drop i (leapsOf s))) = rw (last-shown lines s from i over) p in
-      all (g .left) rest (omega (arith, parts s (g .well) .room, g .inside))
+      with-rest (g .left) rest (omega (arith, parts s (g .well) .room, g .inside))

@@ -6,7 +6,7 @@ use mathlib.Core.List.{List, _++_}
 use Rattle.format.specs.Ascii.{ascii}
 use Rattle.schedule.specs.declared.Leap.{Leap}
 use Rattle.schedule.specs.declared.Schedule.{Schedule}
-use Rattle.line.specs.Refusal.{between}
+use Rattle.format.specs.Lines.{between}
 use Rattle.show.specs.Show.{firstDate, stretches}
 
 -- what is shown of a well-formed schedule from a month on, with the leaps after it: the stretches, and then the first day from which DTAI is unknown

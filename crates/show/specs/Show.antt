@@ -12,7 +12,8 @@ use Rattle.schedule.specs.declared.Leap.{Leap}
 use Rattle.schedule.specs.declared.Schedule.{Schedule}
 use Rattle.schedule.specs.Schedule.{leapsOf, wellFormed}
 use Rattle.clock.specs.Days.{dtai}
-use Rattle.line.specs.Refusal.{spaceByte, refusal, between}
+use Rattle.format.specs.Lines.{spaceByte, between}
+use Rattle.line.specs.Refusal.{refusal}
 
 -- day d of month m as a date: year, month and day, as `1972-01-31`
 unfoldable pub date : ℕ → ℕ → List ℕ

@@ -237,7 +237,7 @@ fn put_mark(out: &mut [u8], at: usize, gap: u32, mark: u8) -> usize
     next + 1
 }
 
-fn sign_byte(sign: Sign) -> u8
+pub fn sign_byte(sign: Sign) -> u8
     ensures { λ r. ⌜ r ≡ signByte sign ⌝ }
 {
     match sign {

@@ -20,7 +20,7 @@ returns c =
     let args = c .before .before .before .before .before .before .before .before .before .before .before .args in
     let part-end = c .before .before .before .before .before .before .before .part-end in
     let if1 = c .before .before .before .before .before .before .if1 in
-    λ lines. few (put-after-two .ensures lines) (rw (first-and-rest 32 (args .rest .now) _ (part-end .ensures) (if1 .taken))) (omega arith)
+    few (put-after-two .ensures (args .lines)) (rw (first-and-rest 32 (args .rest .now) _ (part-end .ensures) (if1 .taken))) (omega arith)
 
 returns-2 : tie.Need-returns-2
 returns-2 c =
@@ -28,7 +28,7 @@ returns-2 c =
     let args = c .before .before .before .before .before .before .before .before .before .args in
     let part-end = c .before .before .before .before .before .part-end in
     let if1 = c .before .before .before .before .if1 in
-    λ lines. few (put-with-two .ensures) (rw (only 32 (args .rest .now) _ (part-end .ensures) (if1 .left))) (omega arith)
+    few (put-with-two .ensures) (rw (only 32 (args .rest .now) _ (part-end .ensures) (if1 .left))) (omega arith)
 
 pub put-after-one-spec : {M : Type 1} → statement M
 put-after-one-spec =

@@ -20,7 +20,7 @@ returns c =
     let args = c .before .before .before .before .before .before .before .before .before .before .args in
     let part-end = c .before .before .before .before .before .before .before .part-end in
     let if1 = c .before .before .before .before .before .before .if1 in
-    few (put-after-one .ensures (args .lines)) (rw (first-and-rest 32 (args .rest .now) _ (part-end .ensures) (if1 .taken))) (omega arith)
+    few (put-after-one .ensures) (rw (first-and-rest 32 (args .rest .now) _ (part-end .ensures) (if1 .taken))) (omega arith)
 
 returns-2 : tie.Need-returns-2
 returns-2 c =

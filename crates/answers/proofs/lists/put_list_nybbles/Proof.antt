@@ -5,7 +5,8 @@ use mathlib.Core.Path.{_≡_}
 use Rattle.format.proofs.Putting.{few}
 use Rattle.text.proofs.Sound.{accepted-well-formed}
 use Rattle.answers.specs.Lists.{listOf}
-use Rattle.answers.proofs.Taken.{read-refused, read-taken}
+use Rattle.line.specs.Refusal.{refusalAt}
+use Rattle.schedule.proofs.ByReading.{read-refused, read-taken}
 use Rattle.answers.proofs.lists.put_list_nybbles.Statement.{statement}
 use Rattle.answers.proofs.lists.put_list_nybbles.Tie as tie
 
@@ -14,7 +15,7 @@ returns c =
     let put-refusal-at = c .before .before .put-refusal-at in
     let read-list = c .before .before .before .before .before .read-list in
     let if1 = c .before .before .before .before .if1 in
-    few (put-refusal-at .ensures) (read-refused _ (read-list .ensures) (if1 .taken)) (omega arith)
+    few (put-refusal-at .ensures) (read-refused refusalAt _ (read-list .ensures) (if1 .taken)) (omega arith)
 
 -- what is accepted is well formed
 put-nybbles-requires : tie.Need-put-nybbles-requires
@@ -29,7 +30,7 @@ returns-2 c =
     let put-nybbles = c .before .before .put-nybbles in
     let read-list = c .before .before .before .before .before .before .read-list in
     let if1 = c .before .before .before .before .before .if1 in
-    few (put-nybbles .ensures) (read-taken _ (read-list .ensures) (if1 .left)) (omega arith)
+    few (put-nybbles .ensures) (read-taken refusalAt _ (read-list .ensures) (if1 .left)) (omega arith)
 
 pub put-list-nybbles-spec : {M : Type 1} → statement M
 put-list-nybbles-spec =

@@ -7,7 +7,8 @@ use mathlib.Core.Path.{sym, _∙_}
 use Rattle.format.specs.Hex.{unhex}
 use Rattle.nybbles.proofs.Sound.{accepted-well-formed}
 use Rattle.command.specs.Answer.{textAnswer}
-use Rattle.answers.proofs.Taken.{read-refused, read-taken}
+use Rattle.line.specs.Refusal.{refusalAt}
+use Rattle.schedule.proofs.ByReading.{read-refused, read-taken}
 use Rattle.command.proofs.lists.put_text_answer.Statement.{statement}
 use Rattle.command.proofs.lists.put_text_answer.Tie as tie
 
@@ -27,7 +28,7 @@ returns-2 c =
     let if1 = c .before .before .before .before .before .before .if1 in
     let read-hex = c .before .before .before .before .before .read-hex in
     let if2 = c .before .before .before .before .if2 in
-    few (put-refusal-at .ensures) (simp (← is-hex .ensures, not-false (is-hex .result) (if1 .left)) (read-refused _ (read-hex .ensures) (if2 .taken))) (omega arith)
+    few (put-refusal-at .ensures) (simp (← is-hex .ensures, not-false (is-hex .result) (if1 .left)) (read-refused refusalAt _ (read-hex .ensures) (if2 .taken))) (omega arith)
 
 put-text-requires : tie.Need-put-text-requires
 put-text-requires c κs =
@@ -44,7 +45,7 @@ returns-3 c =
     let if1 = c .before .before .before .before .before .before .before .if1 in
     let read-hex = c .before .before .before .before .before .before .read-hex in
     let if2 = c .before .before .before .before .before .if2 in
-    few (put-text .ensures) (simp (← is-hex .ensures, not-false (is-hex .result) (if1 .left)) (read-taken _ (read-hex .ensures) (if2 .left))) (omega arith)
+    few (put-text .ensures) (simp (← is-hex .ensures, not-false (is-hex .result) (if1 .left)) (read-taken refusalAt _ (read-hex .ensures) (if2 .left))) (omega arith)
 
 pub put-text-answer-spec : {M : Type 1} → statement M
 put-text-answer-spec =

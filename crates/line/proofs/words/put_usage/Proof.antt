@@ -69,10 +69,30 @@ returns-9 c =
     let enum-told9 = c .before .before .before .before .before .enum-told9 in
     text-put (put-all9 .ensures) (rw (enum-told9 .given .1)) (omega arith)
 
+returns-10 : tie.Need-returns-10
+unfolding usage
+returns-10 c =
+    let put-all10 = c .before .before .put-all10 in
+    let enum-told10 = c .before .before .before .before .before .enum-told10 in
+    text-put (put-all10 .ensures) (rw (enum-told10 .given .1)) (omega arith)
+
+returns-11 : tie.Need-returns-11
+unfolding usage
+returns-11 c =
+    let put-all11 = c .before .before .put-all11 in
+    let enum-told11 = c .before .before .before .before .before .enum-told11 in
+    text-put (put-all11 .ensures) (rw (enum-told11 .given .1)) (omega arith)
+
 pub put-usage-spec : {M : Type 1} → statement M
 put-usage-spec =
     tie.close
     (tie.spec
+    (λ c. search needs)
+    (λ c. search needs)
+    (λ c κs. search needs)
+    (λ c. search needs)
+    (λ c. search needs)
+    (λ c κs. search needs)
     (λ c. search needs)
     (λ c. search needs)
     (λ c κs. search needs)
@@ -117,4 +137,8 @@ put-usage-spec =
     (λ c. search needs)
     returns-8
     (λ c. search needs)
-    returns-9)
+    returns-9
+    (λ c. search needs)
+    returns-10
+    (λ c. search needs)
+    returns-11)

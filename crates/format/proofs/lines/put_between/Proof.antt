@@ -1,11 +1,11 @@
--- `line::refusal::put_between` meets its contract. Assumes nothing.
+-- `format::lines::put_between` meets its contract. Assumes nothing.
 use borrow.Author.Needs.{needs}
 use native.Mathlib.Omega.{arith}
 use mathlib.Core.Path.{refl}
 use Rattle.format.proofs.Putting.{up-to, few, a-byte}
-use Rattle.line.specs.Refusal.{between}
-use Rattle.line.proofs.refusal.put_between.Statement.{statement}
-use Rattle.line.proofs.refusal.put_between.Tie as tie
+use Rattle.format.specs.Lines.{between}
+use Rattle.format.proofs.lines.put_between.Statement.{statement}
+use Rattle.format.proofs.lines.put_between.Tie as tie
 
 returns : tie.Need-returns
 unfolding between

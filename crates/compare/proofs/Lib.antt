@@ -1,0 +1,13 @@
+-- The laws of two lists that the crates above cite.
+pub mod Marks
+pub mod Told
+pub mod Places
+pub mod Ahead
+pub mod Going
+pub mod Found
+pub mod Held
+pub mod Meaning
+pub mod Parting
+pub mod Worked
+pub mod Handed
+pub mod Room

@@ -1,0 +1,47 @@
+-- The marks that leaps give a month: one that is no `0` exactly where there is a leap, and never a `?`.
+-- Assumes nothing.
+use mathlib.Core.Path.{_≡_, refl, sym, ap, _∙_}
+use mathlib.Core.Bool.{Bool, true, false, not, _||_, cond}
+use mathlib.Core.List.{List, [], _∷_}
+use Prim.Native.Nat.{ℕ, _≤_}
+use lib.Dec.{eqb}
+use native.Mathlib.Omega.{arith}
+use borrow.Author.Tests.{ne-eqb}
+use Rattle.format.specs.Ascii.{zeroByte}
+use Rattle.schedule.specs.declared.Sign.{Sign}
+use Rattle.schedule.specs.declared.Sign.the-variants.{Positive, Negative}
+use Rattle.schedule.specs.declared.Leap.{Leap}
+use Rattle.schedule.specs.Schedule.{gapsFit}
+use Rattle.schedule.proofs.Cases.{by-bool}
+use Rattle.schedule.proofs.Gaps.{fits-lt, first, later}
+use Rattle.text.specs.Bytes.{signByte, endByte}
+use Rattle.compare.specs.Compare.{hasLeap, leapMark}
+
+pub sign-some : (g : Sign) → eqb (signByte g) zeroByte ≡ false
+sign-some Positive = refl
+sign-some Negative = refl
+
+sign-known : (g : Sign) → eqb (signByte g) endByte ≡ false
+sign-known Positive = refl
+sign-known Negative = refl
+
+-- a month has a leap exactly where the mark is not `0`
+pub leap-marked : (ls : List Leap) (m : ℕ) → hasLeap ls m ≡ not (eqb (leapMark ls m) zeroByte)
+unfolding hasLeap leapMark
+leap-marked [] m = refl
+leap-marked (l ∷ ls) m =
+    by-bool (eqb (l .month) m) (λ t. rw (t, sign-some (l .sign))) (λ f. rw f (leap-marked ls m))
+
+-- leaps after a month: none at it
+pub none-yet : (ls : List Leap) (from e k : ℕ) → gapsFit from ls e ≡ true → k ≤ from → leapMark ls k ≡ zeroByte
+unfolding leapMark
+none-yet [] from e k f h = refl
+none-yet (l ∷ ls) from e k f h =
+    let g = fits-lt from (l .month) (first from l ls e f) in
+    rw (ne-eqb (l .month) k (λ z. omega arith)) (none-yet ls (l .month) e k (later from l ls e f) (omega arith))
+
+-- leaps leave no month unknown
+pub never-unknown : (ls : List Leap) (m : ℕ) → eqb (leapMark ls m) endByte ≡ false
+unfolding leapMark
+never-unknown [] m = refl
+never-unknown (l ∷ ls) m = by-bool (eqb (l .month) m) (λ t. rw (t, sign-known (l .sign))) (λ f. rw f (never-unknown ls m))

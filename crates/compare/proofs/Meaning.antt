@@ -1,0 +1,200 @@
+-- What the lines of a comparison mean: which months have one, what the last one says, and when it stands alone.
+-- Assumes nothing.
+use mathlib.Core.Path.{_≡_, refl, sym, ap, _∙_}
+use mathlib.Core.Bool.{Bool, true, false, not, _&&_, _||_, cond, true≢false, and-eq-true-iff}
+use mathlib.Core.List.{List, [], _∷_, _++_}
+use mathlib.Core.Logic.{_↔_, _≢_, _⊎_, inl, inr, ⊎-elim}
+use Prim.Native.Nat.{ℕ, zero, suc, _+_, _≤_, _<_}
+use native.Mathlib.Decide.{decLe}
+use native.Mathlib.Omega.{arith}
+use lib.Dec.{eqb}
+use lib.ListN.{length, getD, length-append}
+use borrow.Author.Tests.{eqb-true, eqb-false, eq-eqb, ne-eqb}
+use Rattle.format.specs.Ascii.{ascii, zeroByte}
+use Rattle.format.specs.Decimal.{decimal}
+use Rattle.format.specs.Lines.{newline, spaceByte, between}
+use Rattle.schedule.specs.declared.Sign.{Sign}
+use Rattle.schedule.specs.declared.Sign.the-variants.{Positive, Negative}
+use Rattle.schedule.specs.declared.Leap.{Leap}
+use Rattle.schedule.specs.declared.Schedule.{Schedule}
+use Rattle.schedule.specs.Schedule.{maxLeaps, leapsOf, isExpired, gapsFit, wellFormed}
+use Rattle.schedule.specs.Extends.{Extends, extends}
+use Rattle.schedule.proofs.Cases.{by-bool}
+use Rattle.schedule.proofs.Expired.{not-expired, known-until}
+use Rattle.schedule.proofs.Extension.{extends-itself, means, tests}
+use Rattle.schedule.proofs.Gaps.{later, before-end, parts}
+use Rattle.schedule.proofs.Order.{both-ways}
+use Rattle.text.specs.Bytes.{signByte, endByte}
+use Rattle.compare.specs.Compare.{hasLeap, leapMark, mark, lineOf, lineAt, linesFrom, differences, expiries, relationBy, relation, comparison, compared}
+use Rattle.compare.proofs.Marks.{leap-marked, never-unknown}
+use Rattle.compare.proofs.Told.{marks-kept, by-marks}
+
+-- ---- the last line
+
+-- it tells which of the two tests passed
+relation-told : (x y x′ y′ : Bool) → relationBy x y ≡ relationBy x′ y′ → (x ≡ x′) × (y ≡ y′)
+unfolding relationBy
+relation-told true true true true e = (refl, refl)
+relation-told true true true false e = absurd (omega (arith, ap length e))
+relation-told true true false true e = absurd (omega (arith, ap length e))
+relation-told true true false false e = absurd (omega (arith, ap length e))
+relation-told true false true true e = absurd (omega (arith, ap length e))
+relation-told true false true false e = (refl, refl)
+relation-told true false false true e = absurd (omega (arith, ap (λ (xs : List ℕ). getD xs 8 0) e))
+relation-told true false false false e = absurd (omega (arith, ap length e))
+relation-told false true true true e = absurd (omega (arith, ap length e))
+relation-told false true true false e = absurd (omega (arith, ap (λ (xs : List ℕ). getD xs 8 0) e))
+relation-told false true false true e = (refl, refl)
+relation-told false true false false e = absurd (omega (arith, ap length e))
+relation-told false false true true e = absurd (omega (arith, ap length e))
+relation-told false false true false e = absurd (omega (arith, ap length e))
+relation-told false false false true e = absurd (omega (arith, ap length e))
+relation-told false false false false e = (refl, refl)
+
+fails : {a b : Schedule} → ¬ Extends a b → extends a b ≡ false
+fails {a} {b} n = by-bool (extends a b) (λ t. absurd (n (means t))) (λ f. f)
+
+failed : {a b : Schedule} → extends a b ≡ false → ¬ Extends a b
+failed f x = true≢false (sym (tests x) ∙ f)
+
+module _ (a b : Schedule) where
+  -- `extends 1` says that the first extends the second, and not the second the first
+  pub says-extends-1 : (relation a b ≡ ascii "extends 1") ↔ (Extends a b × ¬ Extends b a)
+  unfolding relationBy
+  says-extends-1 = (
+    λ e. let p = relation-told (extends a b) (extends b a) true false e in (means (p .0), failed (p .1)),
+    λ p. rw (tests (p .0), fails (p .1)),
+  )
+
+  -- `extends 2` that the second extends the first, and not the first the second
+  pub says-extends-2 : (relation a b ≡ ascii "extends 2") ↔ (¬ Extends a b × Extends b a)
+  unfolding relationBy
+  says-extends-2 = (
+    λ e. let p = relation-told (extends a b) (extends b a) false true e in (failed (p .0), means (p .1)),
+    λ p. rw (fails (p .0), tests (p .1)),
+  )
+
+  -- `contradict` that neither extends the other
+  pub says-contradict : (relation a b ≡ ascii "contradict") ↔ (¬ Extends a b × ¬ Extends b a)
+  unfolding relationBy
+  says-contradict = (
+    λ e. let p = relation-told (extends a b) (extends b a) false false e in (failed (p .0), failed (p .1)),
+    λ p. rw (fails (p .0), fails (p .1)),
+  )
+
+  -- `same` that each extends the other, and so (with 256 places, as every schedule of the code has) that the lists are equal
+  pub says-same : length (a .leaps) ≡ maxLeaps → length (b .leaps) ≡ maxLeaps → wellFormed a ≡ true → wellFormed b ≡ true → (relation a b ≡ ascii "same") ↔ (a ≡ b)
+  unfolding relationBy
+  says-same full full′ w w′ = (
+    λ e. let p = relation-told (extends a b) (extends b a) true true e in both-ways a b full full′ w w′ (means (p .0)) (means (p .1)),
+    λ e. let i = tests (extends-itself a w) in rw (← e, i),
+  )
+
+-- ---- which months have a line
+
+-- a line is not empty
+line-there : (end : List ℕ) (m x y : ℕ) → lineOf end m x y ≢ []
+line-there end m x y e = omega (arith, ap length e, length-append (decimal m) (spaceByte ∷ x ∷ spaceByte ∷ y ∷ end))
+
+-- `+` and `-`
+abbrev pub IsLeap : ℕ → Type 0
+IsLeap x = (x ≡ 43) ⊎ (x ≡ 45)
+
+sign-leap : (g : Sign) → IsLeap (signByte g)
+sign-leap Positive = inl refl
+sign-leap Negative = inr refl
+
+leap-some : {x : ℕ} → IsLeap x → eqb x zeroByte ≡ false
+leap-some (inl e) = rw e refl
+leap-some (inr e) = rw e refl
+
+leap-known : {x : ℕ} → IsLeap x → x ≢ endByte
+leap-known (inl e) z = omega arith
+leap-known (inr e) z = omega arith
+
+-- leaps mark a month by `+` or `-`, or by `0`
+marked-leap : (ls : List Leap) (m : ℕ) → hasLeap ls m ≡ true → IsLeap (leapMark ls m)
+unfolding hasLeap leapMark
+marked-leap [] m h = absurd (true≢false (sym h))
+marked-leap (l ∷ ls) m h =
+    by-bool (eqb (l .month) m) (λ t. rw t (sign-leap (l .sign))) (λ f. rw f (marked-leap ls m (rw f at h)))
+
+-- a list has its leaps before its expiry
+early : (ls : List Leap) (from e m : ℕ) → gapsFit from ls e ≡ true → hasLeap ls m ≡ true → m < e
+unfolding hasLeap
+early [] from e m g h = absurd (true≢false (sym h))
+early (l ∷ ls) from e m g h =
+    let more = later from l ls e g in
+    by-bool (eqb (l .month) m) (λ t. omega (arith, eqb-true (l .month) m t, before-end ls (l .month) e more)) (λ f. early ls (l .month) e m more (rw f at h))
+
+module _ (s : Schedule) (m : ℕ) where
+  -- before the expiry the mark is that of the leaps, and after it `?`
+  pub known-mark : isExpired (s .expiry) m ≡ false → mark s m ≡ leapMark (leapsOf s) m
+  known-mark f = rw f
+
+  pub not-unknown : mark s m ≢ endByte → isExpired (s .expiry) m ≡ false
+  not-unknown n = by-bool (isExpired (s .expiry) m) (λ t. absurd (n (rw t))) (λ f. f)
+
+  pub known : isExpired (s .expiry) m ≡ false → mark s m ≢ endByte
+  known f e = eqb-false (leapMark (leapsOf s) m) endByte (never-unknown (leapsOf s) m) (sym (known-mark f) ∙ e)
+
+  -- a well-formed list has a leap at a month exactly where its mark is one
+  leap-shown : wellFormed s ≡ true → (hasLeap (leapsOf s) m ≡ true) ↔ IsLeap (mark s m)
+  leap-shown w = (
+    λ h. rw (known-mark (not-expired (s .expiry) m (early (leapsOf s) 0 (s .expiry) m (parts s w .gaps) h))) (marked-leap (leapsOf s) m h),
+    λ l.
+        let f = not-unknown (leap-known l) in
+        leap-marked (leapsOf s) m ∙ ap not (ap (λ (x : ℕ). eqb x zeroByte) (sym (known-mark f)) ∙ leap-some l),
+  )
+
+or-true-iff : (x y : Bool) → ((x || y) ≡ true) ↔ ((x ≡ true) ⊎ (y ≡ true))
+or-true-iff true y = (λ e. inl refl, λ e. refl)
+or-true-iff false y = (λ e. inr e, λ e. ⊎-elim (λ z. absurd (true≢false (sym z))) (λ z. z) e)
+
+module _ (end : List ℕ) (a b : Schedule) (m : ℕ) where
+  -- the test of a line
+  differ : Bool
+  differ = (hasLeap (leapsOf a) m || hasLeap (leapsOf b) m) && not (eqb (mark a m) (mark b m))
+
+  line-by : differ ≡ true → lineAt end a b m ≡ lineOf end m (mark a m) (mark b m)
+  unfolding lineAt differ
+  line-by t = rw t
+
+  no-line-by : differ ≡ false → lineAt end a b m ≡ []
+  unfolding lineAt differ
+  no-line-by f = rw f
+
+  tested : lineAt end a b m ≢ [] → differ ≡ true
+  tested n = by-bool differ (λ t. t) (λ f. absurd (n (no-line-by f)))
+
+  -- a line that stands shows two marks
+  pub apart : lineAt end a b m ≢ [] → mark a m ≢ mark b m
+  unfolding differ
+  apart n e =
+      let p = and-eq-true-iff (hasLeap (leapsOf a) m || hasLeap (leapsOf b) m) (not (eqb (mark a m) (mark b m))) .0 (tested n) in
+      true≢false (sym (p .1) ∙ ap not (eq-eqb (mark a m) (mark b m) e))
+
+  -- it stands where there is a leap and the marks differ
+  pub stands : (hasLeap (leapsOf a) m || hasLeap (leapsOf b) m) ≡ true → mark a m ≢ mark b m → lineAt end a b m ≢ []
+  unfolding differ
+  stands h n e = line-there end m (mark a m) (mark b m) (sym (line-by (rw (h, ne-eqb (mark a m) (mark b m) n))) ∙ e)
+
+  -- a month has its line exactly where one list's mark is a leap and the other's is not that leap
+  pub line-exactly : wellFormed a ≡ true → wellFormed b ≡ true → (lineAt end a b m ≢ []) ↔ ((IsLeap (mark a m) ⊎ IsLeap (mark b m)) × (mark a m ≢ mark b m))
+  unfolding differ
+  line-exactly w w′ = (
+    λ n.
+        let p = and-eq-true-iff (hasLeap (leapsOf a) m || hasLeap (leapsOf b) m) (not (eqb (mark a m) (mark b m))) .0 (tested n) in (
+          ⊎-elim (λ (h : hasLeap (leapsOf a) m ≡ true). inl (leap-shown a m w .0 h)) (λ (h : hasLeap (leapsOf b) m ≡ true). inr (leap-shown b m w′ .0 h))
+              (or-true-iff (hasLeap (leapsOf a) m) (hasLeap (leapsOf b) m) .0 (p .0)),
+          apart n,
+        ),
+    λ p e.
+        let h = or-true-iff (hasLeap (leapsOf a) m) (hasLeap (leapsOf b) m) .1
+        (⊎-elim (λ (l : IsLeap (mark a m)). inl (leap-shown a m w .1 l)) (λ (l : IsLeap (mark b m)). inr (leap-shown b m w′ .1 l)) (p .0)) in
+        stands h (p .1) e,
+  )
+
+  -- and it shows the month and both marks
+  pub line-shows : lineAt end a b m ≢ [] → lineAt end a b m ≡ lineOf end m (mark a m) (mark b m)
+  line-shows n = line-by (tested n)

@@ -1,0 +1,67 @@
+-- 7/14 worked by hand, as one table under one claim: what comparing two texts answers and writes, and which of them is the longer.
+-- Assumes nothing.
+use mathlib.Core.Path.{_≡_, refl}
+use mathlib.Core.List.{List, [], _∷_, _++_}
+use Prim.Native.Nat.{ℕ}
+use Prim.Native.String.{String}
+use lib.ListN.{length}
+use Rattle.format.specs.Ascii.{ascii}
+use Rattle.format.specs.Decimal.{decimal, digitsIn}
+use Rattle.format.specs.Lines.{between}
+use Rattle.schedule.specs.declared.Writing.{Writing}
+use Rattle.schedule.specs.Schedule.{isExpired}
+use Rattle.schedule.specs.Answers.{byReading, fitting, fitted}
+use Rattle.schedule.specs.Extends.{below, sameLeaps}
+use Rattle.text.specs.Read.{readFrom, readText}
+use Rattle.compare.specs.declared.longer.Chosen.{Chosen}
+use Rattle.compare.specs.declared.longer.Chosen.the-variants.{First, Second, Refused}
+use Rattle.compare.specs.Longer.{chosenOf, chosen}
+use Rattle.compare.specs.Compare.{hasLeap, leapMark, lineAt, linesFrom, expiries, relationBy, comparison, comparing, comparedInto}
+
+-- a row: two texts and what an output that held other bytes then holds; two texts, a room and the number of the refusal; two texts and the longer
+pub data Row : Type 0 where
+  writes : String → String → String → String → Row
+  refuses : String → String → ℕ → ℕ → Row
+  longer : String → String → Chosen → Row
+
+-- what a row says
+abbrev pub Says : Row → Type 0
+Says (writes x y before after) = comparedInto (ascii x) (ascii y) (ascii before) ≡ ascii after
+Says (refuses x y room n) = comparing (ascii x) (ascii y) room ≡ record { number = n; count = 0 }
+Says (longer x y c) = chosen (ascii x) (ascii y) ≡ c
+
+abbrev pub SayAll : List Row → Type 0
+SayAll [] = Unit {0}
+SayAll (r ∷ rs) = Says r × SayAll rs
+
+abbrev pub table : List Row
+table =
+    -- the paper's own example
+    writes "6+6+5?" "6+12+5?" ".................................." "12 + 0\n18 ? +\n= 17 23\ncontradict\n."
+    -- a leap in the month in which the other list expires, which extends it; a byte beyond the output stays
+    ∷ writes "6?" "6+5?" "...........................x" "6 ? +\n= 6 11\nextends 2\n....x"
+    ∷ writes "6+5?" "6?" "......................." "6 + ?\n= 11 6\nextends 1\n"
+    -- a leap where the other list knows that there is none; equal expiries have no line
+    ∷ writes "11?" "6+5?" "................." "6 0 +\ncontradict\n"
+    -- one month, two signs
+    ∷ writes "6+5?" "6-5?" "................." "6 + -\ncontradict\n"
+    ∷ writes "6-5?" "6-5?" ".......same\n" "same\n..same\n"
+    -- the first list's refusal comes before the second's, and both before 7, which goes by the whole comparison
+    ∷ refuses "06+5?" "" 100 3
+    ∷ refuses "5?" "" 0 1
+    ∷ refuses "5?" "5" 0 1
+    ∷ refuses "5?" "5?" 4 7
+    ∷ writes "5?" "5?" "1234" "1234"
+    -- the longer of two, the first if they are the same, and none of two that contradict each other
+    ∷ longer "6+5?" "6+5?" First
+    ∷ longer "6+6+5?" "6+5?" First
+    ∷ longer "6+5?" "6+6?" Second
+    ∷ longer "6+6+5?" "6+12+5?" (Refused 16)
+    ∷ longer "5?x" "1000?" (Refused 6)
+    ∷ longer "5?" "1000?" (Refused 3)
+    ∷ []
+
+-- every row of the table holds of the definitions
+pub worked : SayAll table
+unfolding readText readFrom byReading fitting fitted comparison linesFrom lineAt hasLeap leapMark isExpired expiries relationBy between decimal digitsIn below sameLeaps chosenOf
+worked = (refl, (refl, (refl, (refl, (refl, (refl, (refl, (refl, (refl, (refl, (refl, (refl, (refl, (refl, (refl, (refl, (refl, tt)))))))))))))))))

@@ -1,0 +1,18 @@
+-- What parts the lines of a text, and the fields of a line.
+-- Assumes nothing: these are definitions.
+use Prim.Native.Nat.{ℕ}
+use mathlib.Core.Bool.{Bool, true, false}
+use mathlib.Core.List.{List, [], _∷_}
+use Rattle.format.specs.Ascii.{ascii}
+
+-- LF and " "
+abbrev pub newline : ℕ
+newline = 10
+
+abbrev pub spaceByte : ℕ
+spaceByte = 32
+
+-- what stands between lines: LF, or `; ` where they are to be one line
+unfoldable pub between : Bool → List ℕ
+between true = newline ∷ []
+between false = ascii "; "

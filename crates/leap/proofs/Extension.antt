@@ -1,0 +1,48 @@
+-- What is handed over of whether a list extends another, and what a caller may rest on it.
+-- Assumes nothing.
+use mathlib.Core.Path.{_≡_, refl, sym, ap, _∙_}
+use mathlib.Core.Bool.{Bool, true, false}
+use mathlib.Core.Logic.{_↔_}
+use Prim.Native.Nat.{ℕ}
+use native.Mathlib.Omega.{arith}
+use Rattle.schedule.specs.declared.Schedule.{Schedule}
+use Rattle.schedule.specs.Schedule.{wellFormed}
+use Rattle.schedule.specs.Extends.{Extends, extends}
+use Rattle.schedule.proofs.Cases.{by-bool}
+use Rattle.schedule.proofs.Extension.{means, tests}
+use Rattle.clock.specs.Question.{given}
+use Rattle.clock.specs.Answers.{HandsValue}
+use Rattle.clock.proofs.Checks.{given-is}
+use Rattle.leap.specs.Calls.{yesOf, extension}
+
+-- what was asked of the schedules that words stand for
+pub asked-of : {l s l′ s′ : Schedule} {b : Bool} {v : ℕ} → l′ ≡ l → s′ ≡ s → v ≡ yesOf b → b ≡ extends l′ s′ → v ≡ yesOf (extends l s)
+asked-of p q e f = e ∙ (ap yesOf f ∙ rw (p, q))
+
+module _ (longer shorter : Schedule) where
+  pub longer-wrong : wellFormed longer ≡ false → HandsValue 0 (extension longer shorter) 11 0
+  unfolding extension
+  longer-wrong f = rw f (record { its-number = refl; its-value = refl })
+
+  module _ (w : wellFormed longer ≡ true) where
+    pub shorter-wrong : wellFormed shorter ≡ false → HandsValue 0 (extension longer shorter) 11 0
+    unfolding extension
+    shorter-wrong f = rw (w, f) (record { its-number = refl; its-value = refl })
+
+    module _ (w′ : wellFormed shorter ≡ true) where
+      pub tested : (v : ℕ) → v ≡ yesOf (extends longer shorter) → HandsValue 0 (extension longer shorter) 0 v
+      unfolding extension
+      tested v e = rw (w, w′) (record { its-number = refl; its-value = e })
+
+      yes : extension longer shorter ≡ given (yesOf (extends longer shorter))
+      unfolding extension
+      yes = rw (w, w′)
+
+      -- of two well-formed lists the answer is 1 exactly where the one extends the other
+      pub yes-means : (extension longer shorter ≡ given 1) ↔ Extends longer shorter
+      yes-means = (
+        λ e.
+            by-bool (extends longer shorter) (λ t. means t)
+            (λ f. let z : yesOf (extends longer shorter) ≡ 1 = given-is (sym yes ∙ e) in absurd (omega (arith, rw f at z))),
+        λ x. yes ∙ rw (tests x),
+      )
