@@ -252,7 +252,8 @@ class Lines:
 
     def long_line(self, size):
         """A line of that many bytes."""
-        start = self.random.choice([b"dtai 5? ", b"utc current ", b"show ", b"nybbles 6+", b"text ", b"uts ", b"", b"show \xff", b"tai 5? 41317 ", b"longer 5? "])
+        starts = [b"dtai 5? ", b"utc current ", b"show ", b"nybbles 6+", b"text ", b"uts ", b"", b"show \xff", b"tai 5? 41317 ", b"longer 5? "]
+        start = self.random.choice(starts)
         if start.endswith((b"? ", b"t ", b"7 ")) and not start.startswith(b"text"):
             return start + b"41317".rjust(size - len(start), b"0")
         return start + self.random.choice([b"0", b"1", b"6+", b" ", b"8f"]) * size
