@@ -7,7 +7,8 @@
 //!
 //! Means used here: the calendar is walked a day at a time; a schedule is a
 //! strip of months, each with its leap; TAI is elapsed time summed month by
-//! month; UTS is document 002's own algorithm; both ways back are searches.
+//! month; UTS is document 002's own algorithm; both ways back are searches; two
+//! lists are compared a month at a time.
 
 #![forbid(unsafe_code)]
 
