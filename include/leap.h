@@ -14,10 +14,11 @@
  *
  * A call returns LEAP_OK (0) with an answer, or the number of a refusal, and
  * sets every output. On a refusal the numbers asked for are 0, a schedule is
- * blank (all 514 words 0), and a writer's buffer is left as it was; a reader's
- * *place is where it stopped, and 0 if the list is taken. A call whose name ends
- * in _many returns a count instead, puts what one call would return into its
- * array `numbers`, and sets the elements of each output below that count.
+ * blank (all 514 words 0), a part has no bytes, and a writer's buffer is left as
+ * it was; a reader's *place is where it stopped, and 0 if the list is taken. A
+ * call whose name ends in _many returns a count instead, puts what one call would
+ * return into its array `numbers`, and sets the elements of each output below
+ * that count.
  *
  * No pointer may be null. An empty input or output may be given as any pointer
  * that isn't null, with length 0. Pointers must be aligned for their type. An
@@ -43,17 +44,19 @@ enum {
     LEAP_PAST_LAST_MONTH = 4,  /* past month 2400, January 2172 */
     LEAP_TOO_MANY_LEAPS = 5,   /* more than 256 leaps */
     LEAP_AFTER_END = 6,        /* something after the end */
-    LEAP_OUTPUT_SHORT = 7,     /* output shorter than the list */
+    LEAP_OUTPUT_SHORT = 7,     /* output shorter than the list or comparison */
     LEAP_BEFORE_1972 = 8,      /* MJD under 41317, or TAI under 10,000,000 */
     LEAP_NO_INSTANT = 9,       /* no such instant */
     LEAP_NOT_KNOWN = 10,       /* expired or not yet known */
-    LEAP_NOT_WELL_FORMED = 11  /* the schedule is not well formed */
+    LEAP_NOT_WELL_FORMED = 11, /* the schedule is not well formed */
+    LEAP_CONTRADICTION = 16    /* two lists contradict each other */
 };
 
 enum {
     LEAP_MAX_LEAPS = 256,
-    LEAP_TEXT_ROOM = 752,    /* bytes that hold any list as text */
-    LEAP_NYBBLES_ROOM = 390  /* bytes that hold any list as nybbles */
+    LEAP_TEXT_ROOM = 752,        /* bytes that hold any list as text */
+    LEAP_NYBBLES_ROOM = 390,     /* bytes that hold any list as nybbles */
+    LEAP_COMPARISON_ROOM = 4629  /* bytes that hold any comparison */
 };
 
 /* A leap second at the end of the day before a month starts. Month 0 is
@@ -80,6 +83,16 @@ typedef char leap_expiry_is_word_513[offsetof(leap_schedule, expiry) == 513 * 4 
 typedef char leap_second_is_2_words[sizeof(leap_second) == 2 * 4 ? 1 : -1];
 typedef char leap_sign_is_word_1[offsetof(leap_second, negative) == 4 ? 1 : -1];
 
+/* A part of bytes that the caller has: its start and its length. */
+typedef struct {
+    const uint8_t *start;
+    size_t length;
+} leap_part;
+
+/* The layout: a pointer and a length, with no padding. */
+typedef char leap_part_is_2_values[sizeof(leap_part) == sizeof(void *) + sizeof(size_t) ? 1 : -1];
+typedef char leap_length_is_value_1[offsetof(leap_part, length) == sizeof(void *) ? 1 : -1];
+
 /* Reads a text list, such as "6+12-5?", into *out. Refuses with 1, 2, 3, 4, 5
  * or 6, and *place is then the byte it stopped at (the length, for 1). */
 uint8_t leap_read_text(const uint8_t *bytes, size_t length,
@@ -101,6 +114,51 @@ uint8_t leap_write_text(const leap_schedule *s,
  * with the same refusals. */
 uint8_t leap_write_nybbles(const leap_schedule *s,
                            uint8_t *out, size_t room, uint64_t *written);
+
+/* Two lists. The longer one extends the shorter if its leaps below the shorter
+ * one's expiry month are all of the shorter one's leaps, equal in month and sign,
+ * and it expires no earlier. It then gives every answer that the shorter gives,
+ * and equal lists extend each other. Where neither extends the other they
+ * contradict: some date has a DTAI under both, and the two differ. */
+
+/* Compares two text lists. For each month, rising, at which either has a leap
+ * and their marks differ, it writes a line: the month, the first list's mark and
+ * the second's. A mark is +, - or 0 (no leap), or ? at and after that list's
+ * expiry month. Then, if the expiry months differ, a line of = and both. The last
+ * line is "same", "extends 1" (the first extends the second), "extends 2" or
+ * "contradict". For "6+6+5?" and "6+12+5?" the lines are
+ *
+ *     12 + 0
+ *     18 ? +
+ *     = 17 23
+ *     contradict
+ *
+ * Each is ended by a newline, and no 0 follows. They are written to the start of
+ * the `room` bytes at out, and their length to *written; bytes beyond that stay.
+ * LEAP_COMPARISON_ROOM is room for any two lists. Refuses, in this order, with
+ * 1, 2, 3, 4, 5 or 6 (the first list does not read), the same (the second does
+ * not) or 7 (room too small), and gives no place. */
+uint8_t leap_compare_text(const uint8_t *first, size_t first_length,
+                          const uint8_t *second, size_t second_length,
+                          uint8_t *out, size_t room, uint64_t *written);
+
+/* Of two text lists that don't contradict, hands back the caller's own bytes of
+ * the longer one: *part is {second, second_length} if only the second extends the
+ * first, else {first, first_length}, so also if they are the same. Refuses, in
+ * this order, with 1, 2, 3, 4, 5 or 6 (the first list does not read), the same
+ * (the second does not) or 16 (they contradict); *part is then {first, 0}.
+ *
+ * *part must hold a valid part before the call too: set it to {first, 0}. */
+uint8_t leap_longer_text(const uint8_t *first, size_t first_length,
+                         const uint8_t *second, size_t second_length,
+                         leap_part *part);
+
+/* Whether one schedule extends another: *yes is 1 if it does, else 0. It answers
+ * "may I replace my stored list by this one?": only by one that extends it, since
+ * that one keeps every answer given so far. Refuses with 11 (either schedule is
+ * not well formed). */
+uint8_t leap_extends(const leap_schedule *longer, const leap_schedule *shorter,
+                     uint8_t *yes);
 
 /* The times. A day is a Modified Julian Day (MJD 41317 is 1 January 1972).
  * UTC counts microseconds of a day of 86,399, 86,400 or 86,401 seconds; UTS

@@ -4,17 +4,19 @@ Usage: arguments.py LEAPSEC SECOND
 
 A question as arguments has the answer of `ask`, with LF for `; `, and the second program's. A first word that is none is told all words.
 """
+import itertools
 import re
 import subprocess
 import sys
 
 from lines import LONGEST, Lines, USAGE, expected
 
-UNKNOWN = b"? expected: show, nybbles, text, dtai, tai, utc, uts, unsmooth, ask or help\n"
-NO_HELP = b"? expected: help WORD, WORD being show, nybbles, text, dtai, tai, utc, uts, unsmooth, ask or help\n"
+WORDS = b"show, nybbles, text, dtai, tai, utc, uts, unsmooth, compare, longer, ask or help\n"
+UNKNOWN = b"? expected: " + WORDS
+NO_HELP = b"? expected: help WORD, WORD being " + WORDS
 TOO_LONG = expected(b"0" * (LONGEST + 1)) + b"\n"
 
-# "The eleven numbers" of 01
+# "The eleven numbers" of 01, and those that requests of 02 add
 NUMBERS = {
     1: "list ends early",
     2: "byte not allowed there",
@@ -27,6 +29,7 @@ NUMBERS = {
     9: "no such instant",
     10: "expired or not yet known",
     11: "schedule not well formed",
+    16: "two lists contradict each other",
 }
 NOT_GIVEN = (7, 11)  # by the program: there is room for every answer, and every list that is read is well formed
 
@@ -67,6 +70,16 @@ def single(leapsec):
         (["show 5?"], b"1972-01-01 1972-05-31 +10\n1972-06-01 unknown\n"),
         (["show", "5?\n"], b"!6 2\n"),
         (["show", ""], b"!1 0\n"),
+        (["compare", "6+6+5?", "6+12+5?"], b"12 + 0\n18 ? +\n= 17 23\ncontradict\n"),
+        (["compare", "6? 6+5?"], b"6 ? +\n= 6 11\nextends 2\n"),
+        (["compare", "06+5?", "5?"], b"3\n"),
+        (["compare", "5?", ""], b"1\n"),
+        (["compare", "5?", "5?\n"], b"6\n"),
+        (["compare", "5?"], b"? expected: compare LIST LIST\n"),
+        (["longer", "6?", "6+5?"], b"6+5?\n"),
+        (["longer", "11?", "6+5?"], b"!16\n"),
+        (["longer", "06+5?", "5?"], b"!3\n"),
+        (["longer", "5?", "5?", ""], b"? expected: longer LIST LIST\n"),
         ([""], UNKNOWN),
         (["--help"], UNKNOWN),
         (["-h"], UNKNOWN),
@@ -105,11 +118,11 @@ def helps(leapsec):
         if not re.search(rb"^" + re.escape(head.rstrip()) + rb"  ", text, re.MULTILINE):
             sys.exit(f"FAILED help has no line for {head!r}")
     print(f"ok the help of {len(USAGE)} words starts as what was expected of them")
-    columns = [re.split(" {2,}", row) for row in text.decode().splitlines()[-3:]]
-    numbers = dict(cell.split(" ", 1) for row in columns for cell in row)
+    rows = itertools.takewhile(lambda row: row[:1].isdigit(), reversed(text.decode().splitlines()))
+    numbers = dict(cell.split(" ", 1) for row in rows for cell in re.split(" {2,}", row))
     if numbers != {str(n): meaning.partition(":")[0] for n, meaning in NUMBERS.items() if n not in NOT_GIVEN}:
         sys.exit(f"FAILED the numbers in help: {numbers}")
-    print(f"ok the {len(numbers)} numbers in help are 01's")
+    print(f"ok the {len(numbers)} numbers in help are those of 01 and 02")
     for words in [["foo"], [""], ["show", "x"], ["show", ""], ["", "show"], ["show\n"], ["x" * 100_000]]:
         if printed(leapsec, "help", *words) != NO_HELP:
             sys.exit(f"FAILED help with {str(words)[:100]}: {printed(leapsec, 'help', *words)!r}")

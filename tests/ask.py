@@ -18,7 +18,7 @@ import threading
 import time
 import tty
 
-from lines import LONGEST, Lines, WORDS, expected
+from lines import CURRENT, LONGEST, Lines, WORDS, expected
 
 
 def answers(program, data):
@@ -36,8 +36,19 @@ def differ(line, first, second):
     return first != second
 
 
-def kind(answer):
-    return {ord("?"): "no questions", ord("!"): "refusals"}.get(answer[0], "answers")
+def refusal(line, answer):
+    """The number of an answer that is a refusal: behind `!`, and alone of a comparison."""
+    if answer.startswith(b"!"):
+        return int(answer[1:].split()[0])
+    if line.startswith(b"compare ") and re.fullmatch(rb"\d+", answer):
+        return int(answer)
+    return None
+
+
+def kind(line, answer):
+    if answer.startswith(b"?"):
+        return "no questions"
+    return "answers" if refusal(line, answer) is None else "refusals"
 
 
 def compare(lines, leapsec, second):
@@ -64,26 +75,46 @@ def offsets(lines, found):
     }
 
 
+def of_two(lines, found):
+    """How often two lists are told apart in each way, and to one in how many lines at least that must happen."""
+    compared = [answer for line, answer in zip(lines, found) if line.startswith(b"compare ")]
+    last = collections.Counter(answer.split(b"; ")[-1].decode() for answer in compared)
+    handed = collections.Counter()
+    for line, answer in zip(lines, found):
+        word, *lists = line.split(b" ")
+        if word == b"longer" and kind(line, answer) == "answers":
+            first, second = [CURRENT if field == b"current" else field for field in lists]
+            handed["a list given twice" if first == second else "the first" if answer == first else "the second"] += 1
+            handed["current"] += answer == CURRENT
+    return {
+        **{f"compare that ends {line}": (last[line], 100) for line in ("same", "extends 1", "extends 2", "contradict")},
+        **{f"compare refused with {n}": (last[str(n)], 5000) for n in range(1, 7)},
+        **{f"longer that gives {which}": (handed[which], 500) for which in ("a list given twice", "the first", "the second", "current")},
+    }
+
+
 def enough(lines, found):
     """Each kind of answer, word and refusal must be there often, and DTAI of zero and below."""
-    kinds = collections.Counter(kind(answer) for answer in found)
-    by_word = collections.Counter((line.split(b" ")[0], kind(answer)) for line, answer in zip(lines, found))
-    refusals = collections.Counter(int(answer[1:].split()[0]) for answer in found if answer.startswith(b"!"))
+    kinds = collections.Counter(kind(line, answer) for line, answer in zip(lines, found))
+    by_word = collections.Counter((line.split(b" ")[0], kind(line, answer)) for line, answer in zip(lines, found))
+    refusals = collections.Counter(refusal(line, answer) for line, answer in zip(lines, found))
+    del refusals[None]
     names = ("answers", "refusals", "no questions")
     sizes, odd = (LONGEST - 1, LONGEST, LONGEST + 1, 100_000), (b"\0", b"\r", b"\xff")
     few = [name for name in names if kinds[name] < len(lines) // 12]
     few += [f"{name} of {word.decode()}" for word in WORDS for name in names if by_word[word, name] < len(lines) // 400]
-    few += [f"refusals {n}" for n in (1, 2, 3, 4, 5, 6, 8, 9, 10) if refusals[n] < len(lines) // 2000]
+    few += [f"refusals {n}" for n in (1, 2, 3, 4, 5, 6, 8, 9, 10, 16) if refusals[n] < len(lines) // 2000]
     few += [f"lines of {size} bytes" for size in sizes if sum(len(line) == size for line in lines) < 2]
     few += [f"lines with {byte}" for byte in odd if sum(byte in line for line in lines) < 20]
-    signs = offsets(lines, found)
-    few += [name for name, (times, one_in) in signs.items() if times < len(lines) // one_in]
+    signs, two = offsets(lines, found), of_two(lines, found)
+    few += [name for name, (times, one_in) in (signs | two).items() if times < len(lines) // one_in]
     if few:
         sys.exit("FAILED too few " + ", ".join(few))
     print(f"ok {len(lines)} lines agree: {kinds['answers']} answers, {kinds['refusals']} refusals, {kinds['no questions']} no questions")
     told = ", ".join(f"{n}: {refusals[n]}" for n in sorted(refusals))
     print(f"ok every word is answered, refused and no question often; refusals by number {told}")
     print("ok DTAI falls to zero and below: " + ", ".join(f"{name}: {times}" for name, (times, _) in signs.items()))
+    print("ok two lists are told apart in every way: " + ", ".join(f"{name}: {times}" for name, (times, _) in two.items()))
 
 
 def ends(leapsec):
@@ -99,6 +130,44 @@ def ends(leapsec):
         if answers(leapsec, data) != wanted:
             sys.exit(f"FAILED {data!r} is answered {answers(leapsec, data)!r}")
     print("ok an empty input, empty lines, and a last line without LF")
+
+
+def two_lists(leapsec):
+    """The answers about two lists, as request 7/14 gives them and as they are worked by hand from it."""
+    questions = {
+        b"compare 6+6+5? 6+12+5?": b"12 + 0; 18 ? +; = 17 23; contradict",
+        b"compare 6? 6+5?": b"6 ? +; = 6 11; extends 2",
+        b"compare 6+5? 6?": b"6 + ?; = 11 6; extends 1",
+        b"compare 11? 6+5?": b"6 0 +; contradict",
+        b"compare 6+5? 6-5?": b"6 + -; contradict",
+        b"compare 6+5? 6+5?": b"same",
+        b"compare current current": b"same",
+        b"compare current " + CURRENT: b"same",
+        b"compare 06+5? 5?": b"3",
+        b"compare 5? 1000?": b"3",
+        b"compare x 06+5?": b"2",
+        b"compare 5? ": b"1",
+        b"compare  5?": b"1",
+        b"compare  ": b"1",
+        b"longer 6? 6+5?": b"6+5?",
+        b"longer 6+5? 6?": b"6+5?",
+        b"longer 6+5? 6+5?": b"6+5?",
+        b"longer current 6+5?": CURRENT,
+        b"longer 6+5? current": CURRENT,
+        b"longer current current": CURRENT,
+        b"longer 6+6+5? 6+12+5?": b"!16",
+        b"longer 6-5? current": b"!16",
+        b"longer 06+5? 5?": b"!3",
+        b"longer 5? 06+5?": b"!3",
+        b"longer 5? ": b"!1",
+        b"longer  ": b"!1",
+    }
+    for line in (b"compare", b"compare ", b"compare 5?", b"compare 5? 5? ", b"compare 5?  5?", b"longer 5?", b"longer 5? 5? 5?"):
+        questions[line] = expected(line)
+    for line, wanted in questions.items():
+        if answers(leapsec, line + b"\n") != [wanted]:
+            sys.exit(f"FAILED {line!r} is answered {answers(leapsec, line)!r}, not {wanted!r}")
+    print(f"ok {len(questions)} lines about two lists are answered as worked by hand")
 
 
 def long_lines(leapsec):
@@ -214,6 +283,7 @@ def main():
     lines = Lines(seed).all(count)
     found = compare(lines, leapsec, second)
     enough(lines, found)
+    two_lists(leapsec)
     ends(leapsec)
     long_lines(leapsec)
     pieces(leapsec, lines, found)

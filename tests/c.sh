@@ -37,15 +37,17 @@ size "$LEAP_LIB_DIR/libleap.a" | awk 'NR > 1 { sum += $2 + $3; n++ } END { exit 
     || fail "the archive has data that can change"
 ok "archive: no data that can change, so no state"
 
-# Readers clear the words that they fill, writers and calls for many make arrays; a single question looks at the words where they stand.
+# Readers clear the words that they fill, writers and calls for many make arrays, calls about two lists make both; a single question looks at
+# the words where they stand.
 copying=$(objdump -dr "$LEAP_LIB_DIR/libleap.a" \
     | awk '/^[0-9a-f]+ <.*>:$/ { name = $2 } /mem(cpy|move|set)/ { print name }' | sort -u)
 grep -q '<leap_read_text>' <<<"$copying" || fail "objdump shows no copy at all"
-questions=$(grep -vE '^<(leap_(read|write)_|leap_.*_many>|text::|nybbles::)' <<<"$copying") || true
+copiers='leap_(read|write)_|leap_.*_many>|leap_(compare_text|longer_text|extends)>|(text|nybbles|compare)::'
+questions=$(grep -vE "^<($copiers)" <<<"$copying") || true
 [ -z "$questions" ] || fail "the archive copies or clears memory in ${questions//$'\n'/ }"
 ok "archive: no single question copies or clears memory"
 
-for test in lists times malformed many; do
+for test in lists times malformed many compare; do
     compiled "$test" -g -fsanitize=address,undefined
     quietly "$test" "$built/$test"
     count_oks "$test"

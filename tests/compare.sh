@@ -1,6 +1,7 @@
 #!/usr/bin/env bash
-# The archive against the second program, call by call. Arguments, if any, are
-# the number of calls and the seed.
+# The archive against the second program, call by call, among the calls at least
+# 50,000 that compare two text lists. Arguments, if any, are the number of calls
+# and the seed.
 source "$(dirname "${BASH_SOURCE[0]}")/common.bash"
 
 cd "$root/rust"
@@ -21,7 +22,9 @@ elif [ "$status" -ne 0 ]; then
 fi
 last=$(tail -n 1 "$log")
 [[ $last =~ ^compared\ [0-9]+\ calls:\ all\ equal$ ]] || fail "compare: its last line is '$last'"
-sed -i -n 's/^\(.*: [1-9][0-9]* calls\)$/ok compare: \1/p' "$log"
+pairs=$(sed -n 's/^two text lists: \([0-9]*\) times$/\1/p' "$log")
+[ $# -gt 0 ] || [ "${pairs:-0}" -ge 50000 ] || fail "compare: only ${pairs:-0} times two text lists"
+sed -i -n 's/^\(.*: [1-9][0-9]* \(calls\|times\)\)$/ok compare: \1/p' "$log"
 count_oks compare
 
 finish

@@ -1,10 +1,12 @@
 """Random question lines, and what leapsec says of those that are no question.
 
-The lines are seeded: every word, lists and numbers that are good and damaged, lists under which DTAI falls below zero, unknown words, missing,
-extra and empty fields, any bytes but LF, and lines up to and over the longest that is a question.
+The lines are seeded: every word, lists and numbers that are good and damaged, lists under which DTAI falls below zero, two lists of which one
+extends or contradicts the other, unknown words, missing, extra and empty fields, any bytes but LF, and lines up to and over the longest that is a
+question.
 """
 import datetime
 import random
+import re
 
 CURRENT = b"6+6+12+12+12+12+12+12+12+18+12+12+24+30+24+12+18+12+12+18+18+18+84+36+42+36+18+125?"
 LONGEST = 8192
@@ -18,6 +20,8 @@ USAGE = {
     b"utc": b"utc LIST TAI",
     b"uts": b"uts LIST MJD MICROS",
     b"unsmooth": b"unsmooth LIST MJD NANOS",
+    b"compare": b"compare LIST LIST",
+    b"longer": b"longer LIST LIST",
 }
 WORDS = list(USAGE)
 
@@ -107,6 +111,48 @@ class Lines:
     def any_list(self):
         return self.random.choice(self.bad if self.chance(5) else self.good)
 
+    def later_expiry(self, text, months):
+        """A list with its last gap made longer, where it can be."""
+        start, gap = re.fullmatch(rb"(.*?)(\d+)\?", text).groups()
+        most = min(999, 2400 - (months[-1] - int(gap)))
+        return start + b"%d?" % self.random.randint(int(gap), most)
+
+    def further_leap(self, text, months):
+        """A list with one more leap, at its expiry, where there can be one."""
+        if months[-1] == 2400 or len(months) > 256:
+            return text
+        gap = self.random.randint(1, min(999, 2400 - months[-1]))
+        return text.replace(b"?", b"%c%d?" % (self.random.choice(b"+-"), gap))
+
+    def cut_short(self, text, months):
+        """A list up to one of its leaps, which it then expires at."""
+        signs = [at for at, byte in enumerate(text) if byte in b"+-"]
+        return text[: self.random.choice(signs)] + b"?" if signs else text
+
+    def turned(self, text, months):
+        """A list with one of its signs turned."""
+        signs = [at for at, byte in enumerate(text) if byte in b"+-"]
+        if not signs:
+            return text
+        at = self.random.choice(signs)
+        return text[:at] + (b"-" if text[at : at + 1] == b"+" else b"+") + text[at + 1 :]
+
+    def two_lists(self):
+        """Two lists, mostly good and related: the same, one that extends the other, or one that contradicts it."""
+        r = self.random
+        text, months = r.choice(self.good)
+        if text == b"current" or self.chance(10):
+            text, months = CURRENT, self.good[0][1]
+        change = r.choice([self.later_expiry, self.further_leap, self.cut_short, self.turned, None, None])
+        other = change(text, months) if change else r.choice([text, r.choice(self.good)[0]])
+        lists = [b"current" if each == CURRENT and self.chance(2) else each for each in (text, other)]
+        r.shuffle(lists)
+        if self.chance(5):
+            lists[r.randrange(2)] = r.choice(self.bad)[0]
+        if self.chance(20):
+            lists = [r.choice(self.bad)[0] for _ in lists]
+        return lists
+
     def day(self, months):
         r = self.random
         near = month_start(r.choice(months))
@@ -174,6 +220,8 @@ class Lines:
         word = self.random.choice(WORDS)
         if word == b"text":
             return [word, self.hex()]
+        if word in (b"compare", b"longer"):
+            return [word, *self.two_lists()]
         text, months = self.any_list()
         if word in (b"show", b"nybbles"):
             return [word, text]
@@ -191,7 +239,7 @@ class Lines:
         r = self.random
         fields = self.fields()
         if self.chance(40):
-            fields[0] = r.choice([b"", b"Show", b"shows", b"sho", b"ask", b"help", b"current", b"tai\x00", b"\x00", b"\xff", b"dtai\r", b"uts\t"])
+            fields[0] = r.choice([b"", b"Show", b"shows", b"sho", b"ask", b"help", b"current", b"tai\x00", b"\x00", b"\xff", b"dtai\r", b"longest"])
         if self.chance(40):
             fields.insert(r.randrange(len(fields) + 1), r.choice([b"", b"", b"1", b"5?", b"\xe2\x80\xa6"]))
         if self.chance(40):
@@ -204,7 +252,8 @@ class Lines:
 
     def long_line(self, size):
         """A line of that many bytes."""
-        start = self.random.choice([b"dtai 5? ", b"utc current ", b"show ", b"nybbles 6+", b"text ", b"uts ", b"", b"show \xff", b"tai 5? 41317 "])
+        starts = [b"dtai 5? ", b"utc current ", b"show ", b"nybbles 6+", b"text ", b"uts ", b"", b"show \xff", b"tai 5? 41317 ", b"longer 5? "]
+        start = self.random.choice(starts)
         if start.endswith((b"? ", b"t ", b"7 ")) and not start.startswith(b"text"):
             return start + b"41317".rjust(size - len(start), b"0")
         return start + self.random.choice([b"0", b"1", b"6+", b" ", b"8f"]) * size
@@ -221,4 +270,4 @@ def expected(line):
     """What leapsec says of a line that is no question."""
     if len(line) > LONGEST:
         return b"? expected: a line of at most 8192 bytes"
-    return b"? expected: " + USAGE.get(line.split(b" ")[0], b"show, nybbles, text, dtai, tai, utc, uts or unsmooth")
+    return b"? expected: " + USAGE.get(line.split(b" ")[0], b"show, nybbles, text, dtai, tai, utc, uts, unsmooth, compare or longer")

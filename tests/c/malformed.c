@@ -44,6 +44,20 @@ static void utc(uint64_t tai)
     same("tai_to_utc", "microseconds", *micros, 0);
 }
 
+/* Extension of a good list by the given one, of the given one by a good list, and
+ * of the given one by itself. */
+static void extends(void)
+{
+    leap_schedule good = list_plus(), *other = last_copy(two_area, &good, sizeof good);
+    uint8_t *yes = last(one_area, 1);
+    refused("extends", leap_extends(given, other, yes), 1);
+    yes = last(one_area, 1);
+    refused("extends", leap_extends(other, given, yes), 1);
+    yes = last(one_area, 1);
+    refused("extends", leap_extends(given, given, yes), 1);
+    same("extends", "a word of the other", memcmp(other, &good, sizeof good) != 0, 0);
+}
+
 /* Each call with values that a good list would answer, and with others. */
 static void malformed(leap_schedule s)
 {
@@ -60,6 +74,7 @@ static void malformed(leap_schedule s)
     asks("utc_to_uts", leap_utc_to_uts, 0, UINT64_MAX);
     asks("uts_to_utc", leap_uts_to_utc, 41317, 0);
     asks("uts_to_utc", leap_uts_to_utc, 0, UINT64_MAX);
+    extends();
     same("all", "an input word", memcmp(given, &s, sizeof s) != 0, 0);
 }
 

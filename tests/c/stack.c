@@ -19,9 +19,11 @@ enum { LIMIT = 65536, PAINTED = 4 << 20, PAINT = 0xc5, INPUT = 1 << 20, MANY = 1
 
 /* What a case works on; none of it on the stack. Of many questions there are
  * more than 16 bits can count. */
-static uint8_t input[INPUT], output[4096];
-static size_t length;
-static leap_schedule schedule, read_back;
+static uint8_t input[INPUT], other[INPUT], output[LEAP_COMPARISON_ROOM];
+static size_t length, other_length;
+static leap_schedule schedule, read_back, shorter;
+static leap_part part;
+static uint8_t yes;
 static uint64_t first, second, one, two;
 static int32_t dtai, dtais[MANY];
 static uint64_t firsts[MANY], seconds[MANY], ones[MANY], twos[MANY];
@@ -35,6 +37,16 @@ static void write_nybbles(void)
 {
     number = leap_write_nybbles(&schedule, output, sizeof output, &one);
 }
+static void compare_text(void)
+{
+    number = leap_compare_text(input, length, other, other_length, output, sizeof output, &one);
+}
+static void longer_text(void)
+{
+    part.start = input, part.length = 0;
+    number = leap_longer_text(input, length, other, other_length, &part);
+}
+static void extends(void) { number = leap_extends(&schedule, &shorter, &yes); }
 static void ask_dtai(void) { number = leap_dtai(&schedule, first, &dtai); }
 static void utc_to_tai(void) { number = leap_utc_to_tai(&schedule, first, second, &one); }
 static void tai_to_utc(void) { number = leap_tai_to_utc(&schedule, first, &one, &two); }
@@ -90,6 +102,26 @@ static void text_megabyte(void) { REPEAT("1+", INPUT / 2, ""); }
 static void text_digits(void) { REPEAT("1", INPUT, ""); }
 static void text_after(void) { REPEAT("5?", INPUT / 2, ""); }
 
+/* The list made last is the other one too. */
+static void twice(void)
+{
+    memcpy(other, input, length);
+    other_length = length;
+}
+static void two_longest(void) { text_longest(), twice(); }
+static void two_megabytes(void) { text_megabyte(), twice(); }
+static void second_megabyte(void) { text_megabyte(), twice(), text_256(); }
+/* The longest comparison: 256 leaps each, none shared; see compare.c. */
+static void two_unlike(void)
+{
+    REPEAT("2+", 255, "892?");
+    memmove(input + 4, input, length);
+    memcpy(input, "998+", 4), length += 4;
+    twice();
+    memcpy(input, "999+", 4);
+    memcpy(input + length - 4, "890?", 4);
+}
+
 static void nybbles_256(void) { REPEAT("\xd0", 256, "\xf0"); }
 static void nybbles_00(void) { REPEAT("\x00", INPUT, ""); }
 static void nybbles_88(void) { REPEAT("\x88", INPUT, ""); }
@@ -144,6 +176,8 @@ static void ask_tai(void) { ask(UINT64_C(86400000000) * (111444 - 41317) + 26400
 static void ask_first(void) { ask(41317, 0); }
 static void ask_far(void) { ask(UINT64_MAX, 0); }
 static void malformed(void) { ask_first(), schedule.leap[255].negative = 2; }
+static void two_dense(void) { dense(9), shorter = schedule, schedule.expiry++; }
+static void shorter_malformed(void) { two_dense(), shorter.leap[255].negative = 2; }
 
 static const struct {
     const char *name;
@@ -169,6 +203,15 @@ static const struct {
     {"write_nybbles, the longest list", dense_17, write_nybbles, 0},
     {"write_nybbles, a gap of 999", longest_gap, write_nybbles, 0},
     {"write_nybbles, malformed", malformed, write_nybbles, 11},
+    {"compare_text, the longest output", two_unlike, compare_text, 0},
+    {"compare_text, the longest lists", two_longest, compare_text, 0},
+    {"compare_text, 1 MiB of 1+ twice", two_megabytes, compare_text, 5},
+    {"compare_text, 1 MiB as the second", second_megabyte, compare_text, 5},
+    {"longer_text, the longest lists", two_longest, longer_text, 0},
+    {"longer_text, 256 leaps, none shared", two_unlike, longer_text, 16},
+    {"longer_text, 1 MiB as the second", second_megabyte, longer_text, 5},
+    {"extends, 256 leaps", two_dense, extends, 0},
+    {"extends, malformed", shorter_malformed, extends, 11},
     {"dtai, 256 leaps", ask_day, ask_dtai, 0},
     {"dtai, malformed", malformed, ask_dtai, 11},
     {"utc_to_tai, 256 leaps", ask_micros, utc_to_tai, 0},
@@ -275,7 +318,7 @@ static int holds(size_t own, size_t which)
                WIFSIGNALED(status) ? strsignal(WTERMSIG(status)) : "failed");
         return 0;
     }
-    printf("ok stack: %-32s %6lu bytes\n", name, (unsigned long)bytes);
+    printf("ok stack: %-36s %6lu bytes\n", name, (unsigned long)bytes);
     return 1;
 }
 

@@ -1,10 +1,11 @@
 //! What is compared before anything is timed: every program's answer to every
-//! question about every instant, and the lists read and written.
+//! question about every instant, the lists read and written, and two lists
+//! compared with each other.
 
 use leap::ffi;
 use second::Raw;
 
-use crate::lists::List;
+use crate::lists::{List, Two};
 use crate::questions::{ask, Instants, Outputs, Program, Question};
 
 /// How many of the answers had which number. An error names the first instant on
@@ -95,4 +96,22 @@ pub fn formats(list: &List) -> Result<(), String> {
         }
     }
     Ok(())
+}
+
+/// The comparison of two lists and the longer of them, by archive and second
+/// program; gives how many bytes the comparison has.
+pub fn two(lists: &Two) -> Result<usize, String> {
+    let (first, second) = (lists.first.as_bytes(), lists.second.as_bytes());
+    let (mut ours, mut theirs, mut length) = ([0; 4629], [0; 4629], u64::MAX);
+    let number = ffi::compare_text(first, second, &mut ours, &mut length);
+    if (number, length) != second::compare_text(first, second, &mut theirs) || ours != theirs {
+        return Err(format!("{}: compared differently", lists.name));
+    }
+    let mut part = &first[..0];
+    let number = ffi::longer_text(first, second, &mut part);
+    let (by_second, expected) = second::longer_text(first, second);
+    if (number, part.as_ptr_range()) != (by_second, expected.as_ptr_range()) {
+        return Err(format!("{}: another list is the longer", lists.name));
+    }
+    Ok(length as usize)
 }

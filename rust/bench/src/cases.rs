@@ -10,15 +10,18 @@ use second::Raw;
 use crate::baseline;
 use crate::erfa;
 use crate::instants::COUNT;
-use crate::lists::List;
+use crate::lists::{List, Two};
 use crate::measure::{measure, Case, Timed};
 use crate::questions::{ask, Instants, Outputs, Program, Question};
 
 pub const ARCHIVE: &str = "archive";
 pub const PREPARED_ANEW: &str = "baseline, prepared anew";
 pub const READ_TEXT: &str = "read text";
+pub const COMPARE_LARGEST: &str = "compare 256";
+pub const COMPARE_B: &str = "compare B";
+pub const LONGER_B: &str = "longer of B";
 
-/// Calls in a round of reading or writing a list.
+/// Calls in a round of reading or writing a list, or of comparing two.
 const LIST_CALLS: usize = 256;
 
 /// Every question about every instant of a set, by every program and by ERFA
@@ -111,7 +114,20 @@ pub fn formats(list: &List) -> Vec<Timed> {
     ])
 }
 
-/// A round of calls to read or write a list.
+/// The largest lists compared, list B compared with itself, and the longer of
+/// list B and itself, by archive and second program.
+pub fn two_lists<'a>(largest: &'a Two, b: &'a Two) -> Vec<Timed> {
+    measure(vec![
+        comparing(COMPARE_LARGEST, largest),
+        second_comparing(COMPARE_LARGEST, largest),
+        comparing(COMPARE_B, b),
+        second_comparing(COMPARE_B, b),
+        choosing(LONGER_B, b),
+        second_choosing(LONGER_B, b),
+    ])
+}
+
+/// A round of calls to read or write a list, or to compare two.
 fn list_case<'a>(
     what: &'static str,
     program: &'static str,
@@ -160,5 +176,39 @@ fn second_writing<'a>(what: &'static str, raw: &'a Raw, write: SecondWrite) -> C
     list_case(what, crate::programs::SECOND, move || {
         black_box(write(black_box(raw), &mut out));
         black_box(&mut out);
+    })
+}
+
+fn comparing<'a>(what: &'static str, lists: &'a Two) -> Case<'a> {
+    let (mut out, mut written) = ([0; 4629], 0);
+    list_case(what, ARCHIVE, move || {
+        let (first, second) = black_box((lists.first.as_bytes(), lists.second.as_bytes()));
+        black_box(ffi::compare_text(first, second, &mut out, &mut written));
+        black_box((&mut out, &mut written));
+    })
+}
+
+fn second_comparing<'a>(what: &'static str, lists: &'a Two) -> Case<'a> {
+    let mut out = [0; 4629];
+    list_case(what, crate::programs::SECOND, move || {
+        let (first, second) = black_box((lists.first.as_bytes(), lists.second.as_bytes()));
+        black_box(second::compare_text(first, second, &mut out));
+        black_box(&mut out);
+    })
+}
+
+fn choosing<'a>(what: &'static str, lists: &'a Two) -> Case<'a> {
+    list_case(what, ARCHIVE, move || {
+        let (first, second) = black_box((lists.first.as_bytes(), lists.second.as_bytes()));
+        let mut part = &first[..0];
+        black_box(ffi::longer_text(first, second, &mut part));
+        black_box(part);
+    })
+}
+
+fn second_choosing<'a>(what: &'static str, lists: &'a Two) -> Case<'a> {
+    list_case(what, crate::programs::SECOND, move || {
+        let (first, second) = black_box((lists.first.as_bytes(), lists.second.as_bytes()));
+        black_box(second::longer_text(first, second));
     })
 }

@@ -1,4 +1,4 @@
-//! The lists under which the questions are asked.
+//! The lists under which the questions are asked, and those that are compared.
 
 use leap::ffi::{self, Words};
 
@@ -63,6 +63,32 @@ fn densest() -> String {
         text.push_str(if leap % 8 == 0 { "1-" } else { "1+" });
     }
     text + "1?"
+}
+
+/// Two text lists, and their name in a table.
+pub struct Two {
+    pub name: &'static str,
+    pub first: String,
+    pub second: String,
+}
+
+/// The two lists with the longest comparison: 256 leaps each and none shared, all
+/// but each one's first in months of four digits.
+pub fn largest() -> Two {
+    Two {
+        name: "256 leaps",
+        first: format!("999+{}890?", "2+".repeat(255)),
+        second: format!("998+{}892?", "2+".repeat(255)),
+    }
+}
+
+/// List B, twice.
+pub fn b_twice() -> Two {
+    Two {
+        name: "list B",
+        first: B.to_string(),
+        second: B.to_string(),
+    }
 }
 
 pub fn all() -> Result<[List; 3], String> {

@@ -17,7 +17,7 @@ use std::process::ExitCode;
 
 use baseline::BASELINE;
 use instants::COUNT;
-use lists::List;
+use lists::{List, Two};
 use measure::{median, Timed, ROUNDS};
 use programs::{Many, Second, Single, SECOND};
 use questions::{Instants, Program};
@@ -32,6 +32,8 @@ It takes no arguments but --help. Under list B, of 27 leaps, and under a list of
   many questions, about instants at random and about those of one evening
 - calls for many questions with 1, 10 and 100 instants, for UTC to TAI
 - reading and writing both lists as text and as nybbles
+- comparing the two lists with the longest comparison, of 256 leaps each, list B
+  with itself, and handing back the longer of list B and itself
 
 and under a list of 256 leaps, a month apart, the calls for many questions about
 instants at random,
@@ -42,7 +44,7 @@ beside
 - ERFA, if bench is built with the feature erfa, which tools/bench looks to
 
 and at last says which targets are met under list B, for random instants and for
-those of one evening. Before it times anything it compares the
+those of one evening, and by the calls about two lists. Before it times anything it compares the
 answers of archive, second program and baseline. The exit status is 0 whatever
 the times are, 1 if answers differ, and 2 for an unknown argument.
 ";
@@ -181,6 +183,11 @@ fn run() -> Result<(), String> {
         bench.compare()?;
     }
     println!("  all three lists as text and as nybbles, read and written");
+    let (largest, b_twice) = (lists::largest(), lists::b_twice());
+    for two in [&largest, &b_twice] {
+        let (name, bytes) = (two.name, agree::two(two)?);
+        println!("  two lists, {name}: compared in {bytes} bytes, and the longer of them");
+    }
     println!("  all equal");
     print_method();
     let questions = b.questions(true);
@@ -190,17 +197,27 @@ fn run() -> Result<(), String> {
     longest.few();
     let formats = b.formats();
     longest.formats();
+    let two = two_lists(&largest, &b_twice);
     for (set, timed) in b.sets.iter().zip(&questions) {
         targets::print_questions(set.name, timed);
     }
     targets::print_reading(&formats);
+    targets::print_two(&two);
     Ok(())
+}
+
+fn two_lists(largest: &Two, b: &Two) -> Vec<Timed> {
+    let timed = cases::two_lists(largest, b);
+    let title = "two lists, of 256 leaps each with none shared, and list B twice: ns a call";
+    let ratios = [ratio("x second", |timed, what| median(timed, what, SECOND))];
+    tables::print(title, &timed, &ratios, &[]);
+    timed
 }
 
 fn print_method() {
     println!(
         "
-method: medians of {ROUNDS} rounds over {COUNT} instants (256 calls for reading and writing),
+method: medians of {ROUNDS} rounds over {COUNT} instants (256 calls for lists by themselves),
   the rounds of the programs in turn, each after an untimed one. Inputs, outputs and the
   list's 2056 bytes are warm in the caches; outputs are allocated once and reused. The
   instants are the same in every round, so a branch on them may be learnt. The middle half

@@ -1,8 +1,8 @@
 //! The targets, as far as this run has met them: list B, both sets of instants
-//! by themselves, and reading.
+//! by themselves, reading, and two lists.
 
 use crate::baseline::BASELINE;
-use crate::cases::{ARCHIVE, READ_TEXT};
+use crate::cases::{ARCHIVE, COMPARE_B, COMPARE_LARGEST, LONGER_B, READ_TEXT};
 use crate::erfa;
 use crate::measure::{median, Timed};
 use crate::programs::{MANY, SECOND, SINGLE};
@@ -30,17 +30,29 @@ pub fn print_questions(set: &str, questions: &[Timed]) {
     let single = Question::ALL.map(|q| by_erfa(questions, q, SINGLE));
     let many = Question::ALL.map(|q| by_erfa(questions, q, MANY));
     let baseline = Question::ALL.map(|q| by_baseline(questions, q));
-    print(set, single.into_iter().chain(many).chain(baseline));
+    let title = format!("list B, {set}");
+    print(&title, single.into_iter().chain(many).chain(baseline));
 }
 
 /// The target of reading list B.
 pub fn print_reading(formats: &[Timed]) {
-    print("reading", [by_second(formats)]);
+    print("list B, reading", [by_second(formats, READ_TEXT)]);
+}
+
+/// The targets of calls about two lists.
+pub fn print_two(timed: &[Timed]) {
+    let most = Line {
+        other: "20 microseconds",
+        other_time: Some(20_000.0),
+        ..by_second(timed, COMPARE_LARGEST)
+    };
+    let others = [COMPARE_LARGEST, COMPARE_B, LONGER_B].map(|what| by_second(timed, what));
+    print("two lists", [most].into_iter().chain(others));
 }
 
 fn print(title: &str, lines: impl IntoIterator<Item = Line>) {
     println!();
-    println!("== targets: list B, {title}, ns");
+    println!("== targets: {title}, ns");
     println!(
         "{:<20}{:>9}  {:<16}{:>9}{:>15}  {:<21}  met",
         "", "time", "other", "time", "ratio", "target"
@@ -78,12 +90,12 @@ fn by_baseline(timed: &[Timed], question: Question) -> Line {
     }
 }
 
-fn by_second(timed: &[Timed]) -> Line {
+fn by_second(timed: &[Timed], what: &str) -> Line {
     Line {
-        what: READ_TEXT.to_string(),
-        time: median(timed, READ_TEXT, ARCHIVE),
+        what: what.to_string(),
+        time: median(timed, what, ARCHIVE),
         other: SECOND,
-        other_time: median(timed, READ_TEXT, SECOND),
+        other_time: median(timed, what, SECOND),
         target: Target::AtMost(1.0),
     }
 }

@@ -33,13 +33,20 @@ pub enum Call {
     /// A schedule, and the room that it is to be written to.
     Write(Format, Box<Words>, usize),
     Ask(Box<Words>, Question),
+    /// Two text lists, and the room for their comparison.
+    Compare(Vec<u8>, Vec<u8>, usize),
+    /// Two text lists, of which the longer is handed back.
+    Longer(Vec<u8>, Vec<u8>),
+    /// Whether the first schedule extends the second.
+    Extends(Box<Words>, Box<Words>),
 }
 
 /// All that a call returns or may change.
 #[derive(Clone, Debug, PartialEq, Eq)]
 pub struct Outcome {
     pub number: u8,
-    /// The output numbers, in their order in the header.
+    /// The output numbers, in their order in the header. A part stands as its
+    /// start's place in the bytes of `Beside`, and its length.
     pub values: Vec<i128>,
     /// A reader's schedule.
     pub words: Vec<u32>,
@@ -64,6 +71,34 @@ pub fn filled_bytes(length: usize) -> Vec<u8> {
     (0..length).map(|i| i as u8 ^ 0xa5).collect()
 }
 
+/// What a part is before a call.
+pub const FILL_PART: &[u8] = b"not set";
+
+/// Two lists in one allocation, with a space between: no byte of one is a byte
+/// of the other, and an empty list has a place too.
+struct Beside {
+    bytes: Vec<u8>,
+    first: usize,
+}
+
+impl Beside {
+    fn new(first: &[u8], second: &[u8]) -> Beside {
+        Beside {
+            bytes: [first, b" ", second].concat(),
+            first: first.len(),
+        }
+    }
+
+    fn both(&self) -> (&[u8], &[u8]) {
+        (&self.bytes[..self.first], &self.bytes[self.first + 1..])
+    }
+
+    fn handed(&self, number: u8, part: &[u8]) -> Outcome {
+        let place = part.as_ptr() as i128 - self.bytes.as_ptr() as i128;
+        answer(number, vec![place, part.len() as i128])
+    }
+}
+
 impl Call {
     /// The function's name, without `leap_`.
     pub fn name(&self) -> &'static str {
@@ -73,6 +108,29 @@ impl Call {
             Call::Write(Format::Text, ..) => "write_text",
             Call::Write(Format::Nybbles, ..) => "write_nybbles",
             Call::Ask(_, question) => question.kind.name(),
+            Call::Compare(..) => "compare_text",
+            Call::Longer(..) => "longer_text",
+            Call::Extends(..) => "extends",
+        }
+    }
+
+    /// What the outcome says of two lists, if the call asks about two.
+    pub fn verdict(&self, outcome: &Outcome) -> Option<&'static str> {
+        if outcome.number != 0 {
+            return None;
+        }
+        match self {
+            Call::Compare(..) => {
+                let end = GUARD + outcome.values[0] as usize;
+                let written = &outcome.bytes[GUARD..end];
+                let says = VERDICTS.iter().find(|v| written.ends_with(v.0));
+                says.map(|v| v.1)
+            }
+            Call::Longer(..) if outcome.values[0] == 0 => Some(FIRST_IS_LONGER),
+            Call::Longer(..) => Some(SECOND_IS_LONGER),
+            Call::Extends(..) if outcome.values[0] == 1 => Some(EXTENDS),
+            Call::Extends(..) => Some(EXTENDS_NOT),
+            _ => None,
         }
     }
 
@@ -100,6 +158,18 @@ impl Kind {
         }
     }
 }
+
+/// A comparison's last line, and what is counted for it.
+pub const VERDICTS: [(&[u8], &str); 4] = [
+    (b"same\n", "compare_text said same"),
+    (b"extends 1\n", "compare_text said extends 1"),
+    (b"extends 2\n", "compare_text said extends 2"),
+    (b"contradict\n", "compare_text said contradict"),
+];
+pub const FIRST_IS_LONGER: &str = "longer_text handed back the first";
+pub const SECOND_IS_LONGER: &str = "longer_text handed back the second";
+pub const EXTENDS: &str = "extends said yes";
+pub const EXTENDS_NOT: &str = "extends said no";
 
 /// The proved archive's outcome.
 pub fn archive(call: &Call) -> Outcome {
@@ -141,6 +211,24 @@ pub fn archive(call: &Call) -> Outcome {
             };
             answer(number, vec![value.into()])
         }
+        Call::Compare(first, second, room) => {
+            let mut bytes = filled_bytes(room + 2 * GUARD);
+            let out = &mut bytes[GUARD..GUARD + room];
+            let number = ffi::compare_text(first, second, out, &mut value);
+            writing(number, value, bytes)
+        }
+        Call::Longer(first, second) => {
+            let lists = Beside::new(first, second);
+            let (first, second) = lists.both();
+            let mut part = FILL_PART;
+            let number = ffi::longer_text(first, second, &mut part);
+            lists.handed(number, part)
+        }
+        Call::Extends(longer, shorter) => {
+            let mut yes = FILL as u8;
+            let number = ffi::extends(longer, shorter, &mut yes);
+            answer(number, vec![yes.into()])
+        }
     }
 }
 
@@ -181,6 +269,23 @@ pub fn second(call: &Call) -> Outcome {
                 Kind::UtsToUtc => second::uts_to_utc(&raw, a, b),
             };
             answer(number, vec![value.into()])
+        }
+        Call::Compare(first, second, room) => {
+            let mut bytes = filled_bytes(room + 2 * GUARD);
+            let out = &mut bytes[GUARD..GUARD + room];
+            let (number, written) = second::compare_text(first, second, out);
+            writing(number, written, bytes)
+        }
+        Call::Longer(first, second) => {
+            let lists = Beside::new(first, second);
+            let (first, second) = lists.both();
+            let (number, part) = second::longer_text(first, second);
+            lists.handed(number, part)
+        }
+        Call::Extends(longer, shorter) => {
+            let [longer, shorter] = [longer, shorter].map(|words| Raw::from_words(words));
+            let (number, yes) = second::extends(&longer, &shorter);
+            answer(number, vec![yes.into()])
         }
     }
 }

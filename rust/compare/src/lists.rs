@@ -93,8 +93,13 @@ pub mod text {
         }
     }
 
+    /// The list of a schedule; empty if that is not well formed.
+    pub fn of(words: &Words) -> Vec<u8> {
+        spelt(&gaps_of(words))
+    }
+
     pub fn valid(random: &mut Random) -> Vec<u8> {
-        spelt(&gaps_of(&schedules::any(random)))
+        of(&schedules::any(random))
     }
 
     pub fn broken(random: &mut Random) -> Vec<u8> {
@@ -103,7 +108,12 @@ pub mod text {
         } else {
             valid(random)
         };
-        damaged(random, list, byte)
+        damaged(random, list)
+    }
+
+    /// A list with some of its bytes damaged.
+    pub fn damaged(random: &mut Random, list: Vec<u8>) -> Vec<u8> {
+        super::damaged(random, list, byte)
     }
 
     pub fn limit(random: &mut Random) -> Vec<u8> {

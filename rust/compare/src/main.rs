@@ -17,6 +17,7 @@ mod schedules;
 mod shrink;
 mod smaller;
 mod tally;
+mod texts;
 mod times;
 
 use std::process::ExitCode;
@@ -26,9 +27,10 @@ use many::Many;
 use pairs::Pair;
 use random::Random;
 use shrink::shrink;
-use tally::Tally;
+use tally::{Tally, EVERY_ROOM, LONGEST, TWO_LISTS};
+use texts::COMPARISON_ROOM;
 
-const CALLS: u64 = 350_000;
+const CALLS: u64 = 550_000;
 const SEED: u64 = 1972;
 
 /// Lists or schedules of one kind, and their share of the calls.
@@ -41,7 +43,6 @@ struct Source {
 type MakeWords = fn(&mut Random) -> Box<leap::ffi::Words>;
 type MakePair = fn(&mut Random) -> (Box<leap::ffi::Words>, Box<leap::ffi::Words>);
 
-#[derive(Clone, Copy)]
 enum Make {
     List(Format, fn(&mut Random) -> Vec<u8>),
     /// Written, and asked all questions.
@@ -49,12 +50,14 @@ enum Make {
     /// The first extends the second.
     Extension(MakePair),
     Contradiction(MakePair),
+    /// Compared, and the longer handed back.
+    Two(texts::Kind),
 }
 
-use Make::{Contradiction, Extension, List, Words};
+use Make::{Contradiction, Extension, List, Two, Words};
 
 #[rustfmt::skip]
-const SOURCES: [Source; 23] = [
+const SOURCES: [Source; 36] = [
     Source { name: "text, valid", share: 3, make: List(Format::Text, lists::text::valid) },
     Source { name: "text, damaged", share: 6, make: List(Format::Text, lists::text::broken) },
     Source { name: "text, near a limit", share: 3, make: List(Format::Text, lists::text::limit) },
@@ -78,6 +81,19 @@ const SOURCES: [Source; 23] = [
     Source { name: "pairs, extended", share: 8, make: Extension(pairs::extended) },
     Source { name: "pairs, cut short", share: 6, make: Extension(pairs::cut_short) },
     Source { name: "pairs, contradicting", share: 4, make: Contradiction(pairs::contradicting) },
+    Source { name: "two lists, the same", share: 3, make: Two(texts::SAME) },
+    Source { name: "two lists, one with a later expiry only", share: 5, make: Two(texts::LATER_EXPIRY) },
+    Source { name: "two lists, one with a leap at the other's expiry", share: 5, make: Two(texts::LEAP_AT_EXPIRY) },
+    Source { name: "two lists, one that extends the other", share: 5, make: Two(texts::EXTENDED) },
+    Source { name: "two lists, contradicting in the first leap", share: 5, make: Two(texts::PARTED_AT_FIRST) },
+    Source { name: "two lists, contradicting in the last leap", share: 5, make: Two(texts::PARTED_AT_LAST) },
+    Source { name: "two lists, contradicting", share: 5, make: Two(texts::CONTRADICTING) },
+    Source { name: "two lists, of 256 leaps, none shared", share: 2, make: Two(texts::NONE_SHARED) },
+    Source { name: "two lists, unrelated", share: 5, make: Two(texts::UNRELATED) },
+    Source { name: "two lists, the first refused", share: 4, make: Two(texts::FIRST_REFUSED) },
+    Source { name: "two lists, the second refused", share: 4, make: Two(texts::SECOND_REFUSED) },
+    Source { name: "two lists, both refused", share: 4, make: Two(texts::BOTH_REFUSED) },
+    Source { name: "two lists, one a damaged copy", share: 7, make: Two(texts::DAMAGED) },
 ];
 
 /// Both programs, by name.
@@ -97,6 +113,9 @@ fn compare(call: &Call, tally: &mut Tally) -> Result<(), String> {
         ));
     }
     tally.add(call.name(), expected.number);
+    if let Some(verdict) = call.verdict(&expected) {
+        tally.meet(verdict);
+    }
     Ok(())
 }
 
@@ -125,6 +144,17 @@ fn compare_many(
     Ok(())
 }
 
+/// Asks whether a schedule extends another, and the other way round.
+fn compare_extension(
+    one: &leap::ffi::Words,
+    other: &leap::ffi::Words,
+    tally: &mut Tally,
+) -> Result<(), String> {
+    let (one, other) = (Box::new(*one), Box::new(*other));
+    compare(&Call::Extends(one.clone(), other.clone()), tally)?;
+    compare(&Call::Extends(other, one), tally)
+}
+
 /// Writes a schedule into rooms about its length, and asks it questions.
 fn use_words(
     words: &leap::ffi::Words,
@@ -145,7 +175,11 @@ fn use_words(
     for question in questions {
         compare(&Call::Ask(Box::new(*words), question), tally)?;
     }
-    compare_many(words, &questions, random, tally)
+    compare_many(words, &questions, random, tally)?;
+    match random.below(4) {
+        0 => compare_extension(words, words, tally),
+        _ => compare_extension(words, &schedules::any(random), tally),
+    }
 }
 
 /// Asks the longer and the shorter list the same, and holds demand 3 to it.
@@ -173,7 +207,8 @@ fn use_extension(make: MakePair, random: &mut Random, tally: &mut Tally) -> Resu
         }
     }
     compare_many(&longer, &questions, random, tally)?;
-    compare_many(&shorter, &questions, random, tally)
+    compare_many(&shorter, &questions, random, tally)?;
+    compare_extension(&longer, &shorter, tally)
 }
 
 /// Asks two contradicting lists for the DTAI by which they part.
@@ -190,15 +225,43 @@ fn use_contradiction(make: MakePair, random: &mut Random, tally: &mut Tally) -> 
             return Err(format!("{name} does not tell two lists apart:\n\n{test}"));
         }
     }
-    Ok(())
+    compare_extension(&one, &other, tally)
 }
 
-fn use_source(make: Make, random: &mut Random, tally: &mut Tally) -> Result<(), String> {
-    match make {
+/// Compares two text lists with each other, into rooms about what they need or
+/// into every one up to that, and asks for the longer and for extension.
+fn use_two(kind: &texts::Kind, random: &mut Random, tally: &mut Tally) -> Result<(), String> {
+    let two = (kind.make)(random);
+    if !(kind.is)(&two) {
+        let (one, other) = (two.0.escape_ascii(), two.1.escape_ascii());
+        return Err(format!("two lists of another kind: {one} and {other}"));
+    }
+    let length = texts::compared_length(&two.0, &two.1);
+    let rooms = texts::rooms(random, length);
+    for room in &rooms {
+        compare(&Call::Compare(two.0.clone(), two.1.clone(), *room), tally)?;
+    }
+    tally.meet(TWO_LISTS);
+    if rooms.len() > 1 {
+        tally.meet(EVERY_ROOM);
+    }
+    if length == COMPARISON_ROOM {
+        tally.meet(LONGEST);
+    }
+    compare(&Call::Longer(two.0.clone(), two.1.clone()), tally)?;
+    match (texts::meant(&two.0), texts::meant(&two.1)) {
+        (Some(one), Some(other)) => compare_extension(&one, &other, tally),
+        _ => Ok(()),
+    }
+}
+
+fn use_source(make: &Make, random: &mut Random, tally: &mut Tally) -> Result<(), String> {
+    match *make {
         List(format, make) => compare(&Call::Read(format, make(random)), tally),
         Words(make) => use_words(&make(random), random, tally),
         Extension(make) => use_extension(make, random, tally),
         Contradiction(make) => use_contradiction(make, random, tally),
+        Two(ref kind) => use_two(kind, random, tally),
     }
 }
 
@@ -211,7 +274,7 @@ fn run(calls: u64, seed: u64) -> Result<Tally, String> {
             tally.turn(at);
             let due = tally.calls() + source.share * 12;
             while tally.calls() < due {
-                use_source(source.make, &mut random, &mut tally).map_err(|why| {
+                use_source(&source.make, &mut random, &mut tally).map_err(|why| {
                     format!("{}, after {} calls: {why}", source.name, tally.total())
                 })?;
             }

@@ -9,7 +9,7 @@ use crate::random::Random;
 use crate::schedules::{self, leaps_of, words_of, Leap, EXPIRY, LAST_MONTH, MAX_GAP, MAX_LEAPS};
 use crate::times::month_start;
 
-fn is_list(words: &Words) -> bool {
+pub fn is_list(words: &Words) -> bool {
     well_formed(&Raw::from_words(words))
 }
 

@@ -2,7 +2,9 @@
 
 use std::fmt::Display;
 
-use crate::call::{archive, second, Call, Kind, Outcome, Program, FILL, FILL_DTAI, GUARD};
+use crate::call::{
+    archive, second, Call, Kind, Outcome, Program, FILL, FILL_DTAI, FILL_PART, GUARD,
+};
 use crate::many::{Many, EDGE, FILL_NUMBER};
 use crate::pairs::Pair;
 
@@ -26,7 +28,10 @@ fn words_lines(name: &str, words: &[u32]) -> Vec<String> {
 
 /// A byte string, or the bytes in hex where it would be hard to read.
 fn bytes(list: &[u8]) -> String {
-    if list.iter().all(|b| b.is_ascii_graphic() || *b == b'\n') {
+    if list
+        .iter()
+        .all(|b| b.is_ascii_graphic() || b" \n".contains(b))
+    {
         format!("b\"{}\"", list.escape_ascii())
     } else {
         let hex: Vec<String> = list.iter().map(|b| format!("0x{b:02x}")).collect();
@@ -52,6 +57,16 @@ fn differences<T: PartialEq + Display>(got: &[T], expected: &[T]) -> String {
     }
 }
 
+/// The lines that make a room and its count, and the arguments that lend them.
+fn lent_room(room: usize) -> (Vec<String>, String) {
+    let (length, end) = (room + 2 * GUARD, room + GUARD);
+    let lets = vec![
+        format!("let mut out: [u8; {length}] = std::array::from_fn(|i| i as u8 ^ 0xa5);"),
+        format!("let mut written = {FILL:#x};"),
+    ];
+    (lets, format!("&mut out[{GUARD}..{end}], &mut written"))
+}
+
 /// The lines that make a call and put what it returns into `got`.
 fn call_lines(call: &Call, got: &str) -> Vec<String> {
     let name = call.name();
@@ -65,17 +80,36 @@ fn call_lines(call: &Call, got: &str) -> Vec<String> {
             "place",
         ),
         Call::Write(_, words, room) => {
-            let (length, end) = (room + 2 * GUARD, room + GUARD);
-            let mut lets = words_lines("words", &words[..]);
-            lets.push(format!(
-                "let mut out: [u8; {length}] = std::array::from_fn(|i| i as u8 ^ 0xa5);"
-            ));
-            lets.push(format!("let mut written = {FILL:#x};"));
+            let (lets, lent) = lent_room(*room);
             (
-                lets,
-                format!("&words, &mut out[{GUARD}..{end}], &mut written"),
+                [words_lines("words", &words[..]), lets].concat(),
+                format!("&words, {lent}"),
                 "written",
             )
+        }
+        Call::Compare(one, other, room) => {
+            let (lets, lent) = lent_room(*room);
+            let (one, other) = (bytes(one), bytes(other));
+            (lets, format!("{one}, {other}, {lent}"), "written")
+        }
+        Call::Longer(one, other) => {
+            let (end, start) = (one.len(), one.len() + 1);
+            let lists = bytes(&[one, &b" "[..], other].concat());
+            let lets = vec![
+                format!("let lists: &[u8] = {lists};"),
+                format!("let mut part: &[u8] = {};", bytes(FILL_PART)),
+            ];
+            (
+                lets,
+                format!("&lists[..{end}], &lists[{start}..], &mut part"),
+                "part.as_ptr() as isize - lists.as_ptr() as isize, part.len()",
+            )
+        }
+        Call::Extends(longer, shorter) => {
+            let mut lets = words_lines("longer", &longer[..]);
+            lets.extend(words_lines("shorter", &shorter[..]));
+            lets.push(format!("let mut yes = {:#x};", FILL as u8));
+            (lets, "&longer, &shorter, &mut yes".to_string(), "yes")
         }
         Call::Ask(words, question) => {
             let (first, second) = (question.first, question.second);
@@ -134,12 +168,12 @@ pub fn call(call: &Call) -> String {
         tuple(&got)
     ));
     let (expected, differ) = match call {
-        Call::Ask(..) => (Vec::new(), String::new()),
+        Call::Ask(..) | Call::Longer(..) | Call::Extends(..) => (Vec::new(), String::new()),
         Call::Read(..) => (
             words_lines("expected", &expected.words),
             differences(&got.words, &expected.words),
         ),
-        Call::Write(..) => (
+        Call::Write(..) | Call::Compare(..) => (
             room_lines(&expected),
             differences(&got.bytes, &expected.bytes),
         ),

@@ -7,6 +7,7 @@ use crate::many::Many;
 use crate::pairs::Pair;
 use crate::schedules::{leaps_of, COUNT, EXPIRY, LAST_MONTH, MAX_LEAPS};
 use crate::smaller;
+use crate::texts::compared_length;
 use crate::times::{month_start, nearest_month};
 
 pub trait Shrink: Clone {
@@ -158,6 +159,13 @@ fn smaller_questions(question: Question) -> impl Iterator<Item = Question> {
     )
 }
 
+/// The rooms to try for an output that is now shorter: one as much smaller, and
+/// the same.
+fn rooms(room: usize, before: usize, after: usize) -> [usize; 2] {
+    let saved = before.saturating_sub(after);
+    [room.saturating_sub(saved), room]
+}
+
 impl Shrink for Call {
     fn smaller(&self) -> Box<dyn Iterator<Item = Call> + '_> {
         match self {
@@ -173,8 +181,7 @@ impl Shrink for Call {
                 let before = length(words);
                 let fewer = edits(words).into_iter().flat_map(move |edit| {
                     let words = edited(words, edit);
-                    let saved = before.saturating_sub(length(&words));
-                    let rooms = [room.saturating_sub(saved), *room];
+                    let rooms = rooms(*room, before, length(&words));
                     rooms.map(|room| Call::Write(*format, words.clone(), room))
                 });
                 let rooms = lower(*room as u64).into_iter();
@@ -189,6 +196,34 @@ impl Shrink for Call {
                 });
                 let numbers = smaller_questions(*question);
                 Box::new(fewer.chain(numbers.map(|q| Call::Ask(words.clone(), q))))
+            }
+            Call::Compare(one, other, room) => {
+                let before = compared_length(one, other);
+                let lists = smaller::two_lists(one, other).into_iter();
+                let fewer = lists.flat_map(move |(one, other)| {
+                    let rooms = rooms(*room, before, compared_length(&one, &other));
+                    rooms.map(|room| Call::Compare(one.clone(), other.clone(), room))
+                });
+                let tighter = lower(*room as u64).into_iter();
+                let tighter =
+                    tighter.map(|r| Call::Compare(one.clone(), other.clone(), r as usize));
+                Box::new(fewer.chain(tighter))
+            }
+            Call::Longer(one, other) => {
+                let lists = smaller::two_lists(one, other).into_iter();
+                Box::new(lists.map(|(one, other)| Call::Longer(one, other)))
+            }
+            Call::Extends(longer, shorter) => {
+                let both = edits(longer).into_iter();
+                let both =
+                    both.map(|edit| Call::Extends(edited(longer, edit), edited(shorter, edit)));
+                let longers = edits(longer).into_iter();
+                let longers =
+                    longers.map(|edit| Call::Extends(edited(longer, edit), shorter.clone()));
+                let shorters = edits(shorter).into_iter();
+                let shorters =
+                    shorters.map(|edit| Call::Extends(longer.clone(), edited(shorter, edit)));
+                Box::new(both.chain(longers).chain(shorters))
             }
         }
     }

@@ -143,6 +143,28 @@ fn merged(format: Format, units: &[u8]) -> Vec<Vec<u8>> {
         .collect()
 }
 
+/// Two lists with the same run of bytes taken out of each, the longest first.
+fn both_shorter(one: &[u8], other: &[u8]) -> Vec<(Vec<u8>, Vec<u8>)> {
+    let common = one.len().min(other.len());
+    let cuts = |list: &[u8]| {
+        let rest = &list[common..];
+        let cut = shorter(&list[..common]).into_iter();
+        cut.map(move |start| [&start[..], rest].concat())
+            .collect::<Vec<_>>()
+    };
+    cuts(one).into_iter().zip(cuts(other)).collect()
+}
+
+/// Two text lists, of which both or one are smaller.
+pub fn two_lists(one: &[u8], other: &[u8]) -> Vec<(Vec<u8>, Vec<u8>)> {
+    let mut all = both_shorter(one, other);
+    let ones = lists(Format::Text, one).into_iter();
+    all.extend(ones.map(|list| (list, other.to_vec())));
+    let others = lists(Format::Text, other).into_iter();
+    all.extend(others.map(|list| (one.to_vec(), list)));
+    all
+}
+
 /// Lists that are shorter or, at the same length, simpler; the boldest first.
 pub fn lists(format: Format, list: &[u8]) -> Vec<Vec<u8>> {
     let units = units(format, list);

@@ -3,8 +3,10 @@
 use std::collections::BTreeMap;
 use std::fmt;
 
-/// The numbers that 01 lets each function return, or put into an array.
-const RESULTS: [(&str, &[u8]); 14] = [
+use crate::call::{EXTENDS, EXTENDS_NOT, FIRST_IS_LONGER, SECOND_IS_LONGER, VERDICTS};
+
+/// The numbers that 01 and 7/14 let each function return, or put into an array.
+const RESULTS: [(&str, &[u8]); 17] = [
     ("read_text", &[0, 1, 2, 3, 4, 5, 6]),
     ("read_nybbles", &[0, 1, 3, 4, 5, 6]),
     ("write_text", &[0, 7, 11]),
@@ -19,12 +21,31 @@ const RESULTS: [(&str, &[u8]); 14] = [
     ("tai_to_utc_many", &[0, 8, 10, 11]),
     ("utc_to_uts_many", &[0, 8, 9, 10, 11]),
     ("uts_to_utc_many", &[0, 8, 9, 10, 11]),
+    ("compare_text", &[0, 1, 2, 3, 4, 5, 6, 7]),
+    ("longer_text", &[0, 1, 2, 3, 4, 5, 6, 16]),
+    ("extends", &[0, 11]),
 ];
+
+/// Two text lists were compared.
+pub const TWO_LISTS: &str = "two text lists";
+/// They were compared with every room from 0 to what they need.
+pub const EVERY_ROOM: &str = "two text lists with every room up to what they need";
+/// Their comparison was as long as any can be.
+pub const LONGEST: &str = "a comparison of 4629 bytes";
+
+/// What else must be met.
+fn to_meet() -> impl Iterator<Item = &'static str> {
+    let verdicts = VERDICTS.iter().map(|verdict| verdict.1);
+    let others = [FIRST_IS_LONGER, SECOND_IS_LONGER, EXTENDS, EXTENDS_NOT];
+    let lists = [TWO_LISTS, EVERY_ROOM, LONGEST];
+    verdicts.chain(others).chain(lists)
+}
 
 pub struct Tally {
     sources: Vec<(&'static str, u64)>,
     turn: usize,
     results: BTreeMap<(&'static str, u8), u64>,
+    met: BTreeMap<&'static str, u64>,
 }
 
 impl Tally {
@@ -33,6 +54,7 @@ impl Tally {
             sources: names.map(|name| (name, 0)).collect(),
             turn: 0,
             results: BTreeMap::new(),
+            met: BTreeMap::new(),
         }
     }
 
@@ -53,6 +75,10 @@ impl Tally {
         }
     }
 
+    pub fn meet(&mut self, what: &'static str) {
+        *self.met.entry(what).or_default() += 1;
+    }
+
     /// Calls of the present source.
     pub fn calls(&self) -> u64 {
         self.sources[self.turn].1
@@ -62,13 +88,20 @@ impl Tally {
         self.sources.iter().map(|source| source.1).sum()
     }
 
-    /// The results of 01 that no call had.
+    /// The sources, the results of 01 and 7/14 and the other things that no call
+    /// had.
     pub fn missing(&self) -> Vec<String> {
-        RESULTS
+        let sources = self.sources.iter().filter(|source| source.1 == 0);
+        let results = RESULTS
             .iter()
             .flat_map(|(name, numbers)| numbers.iter().map(move |number| (*name, *number)))
             .filter(|result| !self.results.contains_key(result))
-            .map(|(name, number)| format!("{name} with {number}"))
+            .map(|(name, number)| format!("{name} with {number}"));
+        let others = to_meet().filter(|what| !self.met.contains_key(what));
+        sources
+            .map(|source| source.0.to_string())
+            .chain(results)
+            .chain(others.map(str::to_string))
             .collect()
     }
 }
@@ -85,6 +118,10 @@ impl fmt::Display for Tally {
                 .map(|n| format!("{n} x {}", met(n)))
                 .collect();
             writeln!(f, "{name} gave {}", counts.join(", "))?;
+        }
+        for what in to_meet() {
+            let times = self.met.get(what).copied().unwrap_or(0);
+            writeln!(f, "{what}: {times} times")?;
         }
         Ok(())
     }

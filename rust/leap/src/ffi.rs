@@ -9,11 +9,35 @@
 /// places, the count, the expiry.
 pub type Words = [u32; 514];
 
+/// A part of a caller's bytes as `leap.h` lays it out.
+#[repr(C)]
+struct Part {
+    start: *const u8,
+    length: usize,
+}
+
 extern "C" {
     fn leap_read_text(bytes: *const u8, length: usize, out: *mut Words, place: *mut u64) -> u8;
     fn leap_read_nybbles(bytes: *const u8, length: usize, out: *mut Words, place: *mut u64) -> u8;
     fn leap_write_text(s: *const Words, out: *mut u8, room: usize, written: *mut u64) -> u8;
     fn leap_write_nybbles(s: *const Words, out: *mut u8, room: usize, written: *mut u64) -> u8;
+    fn leap_compare_text(
+        first: *const u8,
+        first_length: usize,
+        second: *const u8,
+        second_length: usize,
+        out: *mut u8,
+        room: usize,
+        written: *mut u64,
+    ) -> u8;
+    fn leap_longer_text(
+        first: *const u8,
+        first_length: usize,
+        second: *const u8,
+        second_length: usize,
+        part: *mut Part,
+    ) -> u8;
+    fn leap_extends(longer: *const Words, shorter: *const Words, yes: *mut u8) -> u8;
     fn leap_dtai(s: *const Words, mjd: u64, dtai: *mut i32) -> u8;
     fn leap_utc_to_tai(s: *const Words, mjd: u64, micros: u64, tai: *mut u64) -> u8;
     fn leap_tai_to_utc(s: *const Words, tai: u64, mjd: *mut u64, micros: *mut u64) -> u8;
@@ -96,6 +120,52 @@ pub fn write_text(s: &Words, out: &mut [u8], written: &mut u64) -> u8 {
 pub fn write_nybbles(s: &Words, out: &mut [u8], written: &mut u64) -> u8 {
     // SAFETY: see above; the room is the slice's own length.
     unsafe { leap_write_nybbles(s, out.as_mut_ptr(), out.len(), written) }
+}
+
+/// Writes the comparison of two text lists to the start of `out`; `written` is
+/// its length.
+pub fn compare_text(first: &[u8], second: &[u8], out: &mut [u8], written: &mut u64) -> u8 {
+    // SAFETY: see above; the lengths and the room are the slices' own.
+    unsafe {
+        leap_compare_text(
+            first.as_ptr(),
+            first.len(),
+            second.as_ptr(),
+            second.len(),
+            out.as_mut_ptr(),
+            out.len(),
+            written,
+        )
+    }
+}
+
+/// Sets `part` to the longer of two text lists that do not contradict, or to the
+/// empty start of the first.
+pub fn longer_text<'a>(first: &'a [u8], second: &'a [u8], part: &mut &'a [u8]) -> u8 {
+    let mut handed = Part {
+        start: part.as_ptr(),
+        length: part.len(),
+    };
+    // SAFETY: see above; the lengths are the slices' own, and so is the part
+    // held before the call.
+    let number = unsafe {
+        leap_longer_text(
+            first.as_ptr(),
+            first.len(),
+            second.as_ptr(),
+            second.len(),
+            &mut handed,
+        )
+    };
+    // SAFETY: the part is the first list, the second, or the first's empty start.
+    *part = unsafe { std::slice::from_raw_parts(handed.start, handed.length) };
+    number
+}
+
+/// Whether one schedule extends another: `yes` is 1 if it does, else 0.
+pub fn extends(longer: &Words, shorter: &Words, yes: &mut u8) -> u8 {
+    // SAFETY: see above.
+    unsafe { leap_extends(longer, shorter, yes) }
 }
 
 /// TAI minus UTC on a day, in seconds.

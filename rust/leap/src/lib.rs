@@ -15,7 +15,7 @@
 //! # Ok::<(), leap::ReadError>(())
 //! ```
 //!
-//! What has no answer is refused, with one of the eleven numbers of [`Refusal`]:
+//! What has no answer is refused, with one of the twelve numbers of [`Refusal`]:
 //!
 //! ```
 //! use leap::{Mjd, ReadError, Refusal, Schedule};
@@ -66,6 +66,32 @@
 //! assert_eq!(falling.dtai(Mjd(41_317)), Err(Refusal::NotWellFormed));
 //! ```
 //!
+//! Two lists are compared, and of two that do not contradict each other the longer
+//! one is handed back, as the caller's own bytes:
+//!
+//! ```
+//! use leap::Refusal;
+//!
+//! let comparison = leap::compare(b"6+6+5?", b"6+12+5?")?;
+//! assert_eq!(comparison, "12 + 0\n18 ? +\n= 17 23\ncontradict\n");
+//!
+//! assert_eq!(leap::longer(b"6?", b"6+5?"), Ok(&b"6+5?"[..]));
+//! assert_eq!(leap::longer(b"6+6+5?", b"6+12+5?"), Err(Refusal::Contradiction));
+//! # Ok::<(), Refusal>(())
+//! ```
+//!
+//! A stored list may be replaced by one that extends it, which keeps every answer:
+//!
+//! ```
+//! use leap::Schedule;
+//!
+//! let stored = Schedule::from_text(b"6+5?")?;
+//! let offered = Schedule::from_text(b"6+6+5?")?;
+//! assert_eq!(offered.extends(&stored), Ok(true));
+//! assert_eq!(stored.extends(&offered), Ok(false));
+//! # Ok::<(), leap::ReadError>(())
+//! ```
+//!
 //! The counts of the three time scales are types of their own, so that none is
 //! put in another's place:
 //!
@@ -79,10 +105,12 @@
 #![deny(unsafe_op_in_unsafe_fn)]
 #![deny(missing_docs)]
 
+mod compare;
 pub mod ffi;
 mod many;
 mod refusal;
 mod schedule;
 
+pub use compare::{compare, longer};
 pub use refusal::{ReadError, Refusal};
 pub use schedule::{Leap, Mjd, Schedule, Sign, TaiMicros, UtcMicros, UtsNanos};

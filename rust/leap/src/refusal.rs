@@ -3,7 +3,7 @@
 use std::error::Error;
 use std::fmt;
 
-/// The eleven refusals, each with its number.
+/// The twelve refusals, each with its number.
 #[derive(Clone, Copy, Debug, PartialEq, Eq, PartialOrd, Ord, Hash)]
 #[repr(u8)]
 pub enum Refusal {
@@ -19,7 +19,7 @@ pub enum Refusal {
     TooManyLeaps = 5,
     /// Something after the expiry.
     AfterEnd = 6,
-    /// The output is shorter than the list.
+    /// The output is shorter than the list or comparison.
     OutputShort = 7,
     /// MJD under 41317, or TAI under 10,000,000.
     Before1972 = 8,
@@ -29,13 +29,15 @@ pub enum Refusal {
     NotKnown = 10,
     /// The schedule is not well formed.
     NotWellFormed = 11,
+    /// Two lists contradict each other.
+    Contradiction = 16,
 }
 
 use Refusal::*;
 
 impl Refusal {
-    /// All eleven, by number.
-    pub const ALL: [Refusal; 11] = [
+    /// All twelve, by number.
+    pub const ALL: [Refusal; 12] = [
         EndsEarly,
         NotAllowed,
         BadGap,
@@ -47,9 +49,10 @@ impl Refusal {
         NoInstant,
         NotKnown,
         NotWellFormed,
+        Contradiction,
     ];
 
-    /// The refusal's number, 1 to 11.
+    /// The refusal's number: 1 to 11, or 16.
     pub fn number(self) -> u8 {
         self as u8
     }
@@ -69,11 +72,12 @@ impl fmt::Display for Refusal {
             PastLastMonth => "past month 2400, January 2172",
             TooManyLeaps => "more than 256 leaps",
             AfterEnd => "something after the end",
-            OutputShort => "the output is shorter than the list",
+            OutputShort => "the output is shorter than the list or comparison",
             Before1972 => "before 1972",
             NoInstant => "no such instant",
             NotKnown => "expired or not yet known",
             NotWellFormed => "the schedule is not well formed",
+            Contradiction => "the lists contradict each other",
         })
     }
 }

@@ -280,7 +280,7 @@ impl fmt::Debug for Schedule {
 pub(crate) fn answer(number: u8) -> Result<(), Refusal> {
     match number {
         0 => Ok(()),
-        _ => Err(Refusal::from_number(number).expect("the archive refuses with 1 to 11")),
+        _ => Err(Refusal::from_number(number).expect("the archive refuses with 1 to 11 or 16")),
     }
 }
 

@@ -49,20 +49,23 @@ fn refusals_have_the_header_s_numbers() {
         .filter_map(|line| line.trim().strip_prefix("LEAP_")?.split_once(" = "))
         .filter_map(|(name, rest)| {
             let digits: String = rest.chars().take_while(char::is_ascii_digit).collect();
-            let number = digits.parse().ok().filter(|n| (1..=11).contains(n))?;
+            // A room or a count is more than a byte holds, and LEAP_OK is 0.
+            let number = digits.parse().ok().filter(|&n: &u8| n > 0)?;
             Some((name.replace('_', "").to_lowercase(), number))
         })
         .collect();
     assert_eq!(named, in_header);
     assert_eq!(
         Refusal::ALL.map(Refusal::number),
-        [1, 2, 3, 4, 5, 6, 7, 8, 9, 10, 11]
+        [1, 2, 3, 4, 5, 6, 7, 8, 9, 10, 11, 16]
     );
     for refusal in Refusal::ALL {
         assert_eq!(Refusal::from_number(refusal.number()), Some(refusal));
     }
     assert_eq!(Refusal::from_number(0), None);
-    assert_eq!(Refusal::from_number(12), None);
+    for number in (12..=15).chain(17..=255) {
+        assert_eq!(Refusal::from_number(number), None);
+    }
 }
 
 #[test]
@@ -228,6 +231,9 @@ fn parts_are_checked_by_every_question() {
         assert_eq!(s.tai_to_utc(TaiMicros(10_000_000)), Err(no));
         assert_eq!(s.utc_to_uts(Mjd(41_317), UtcMicros(0)), Err(no));
         assert_eq!(s.uts_to_utc(Mjd(41_317), UtsNanos(0)), Err(no));
+        assert_eq!(s.extends(&good), Err(no));
+        assert_eq!(good.extends(&s), Err(no));
+        assert_eq!(s.extends(&s), Err(no));
     }
     assert_eq!(Schedule::new(&many[..256], 257).check(), Ok(()));
 }
@@ -243,5 +249,5 @@ fn the_longest_lists_fit() {
     let longest = of_gaps([17; 133].into_iter().chain([1; 124]));
     assert_eq!(longest.to_nybbles().map(|n| n.len()), Ok(390));
     assert!(HEADER.contains("LEAP_TEXT_ROOM = 752,"));
-    assert!(HEADER.contains("LEAP_NYBBLES_ROOM = 390 "));
+    assert!(HEADER.contains("LEAP_NYBBLES_ROOM = 390,"));
 }

@@ -10,10 +10,14 @@
 //! utc LIST TAI             MJD MICROS
 //! uts LIST MJD MICROS      NANOS
 //! unsmooth LIST MJD NANOS  MICROS
+//! compare LIST LIST        a line a month at which they part, `=` and the
+//!                          expiries if they differ, what they are to each other
+//! longer LIST LIST         the longer list
 //! ```
 //!
 //! A refusal is `!` and its number, and for a list that does not read also a
-//! space and the place. What is no question gets a line that starts with `?`.
+//! space and the place. `longer` gives no place, and `compare` the number alone.
+//! What is no question gets a line that starts with `?`.
 //!
 //! The fields of a line are what stands between its single spaces; an empty
 //! one is a field too. So `show ` asks about the empty list, which ends early.
@@ -25,7 +29,7 @@ use std::rc::Rc;
 use crate::calendar::calendar;
 use crate::clock::Prepared;
 use crate::schedule::Schedule;
-use crate::{nybbles, text};
+use crate::{compare, nybbles, text};
 
 /// The list behind the word `current`.
 pub const CURRENT: &[u8] =
@@ -39,7 +43,7 @@ const KEPT: usize = 256;
 
 #[derive(Clone, Debug, PartialEq, Eq)]
 pub enum Reply {
-    /// One line, except for `show`.
+    /// One line, except for `show` and `compare`.
     Answer(Vec<String>),
     Refused(String),
     NoQuestion,
@@ -92,6 +96,14 @@ pub fn to_hex(bytes: &[u8]) -> String {
     bytes.iter().flat_map(digits).collect()
 }
 
+/// The text list that a field stands for.
+fn text_of(word: &[u8]) -> &[u8] {
+    match word {
+        b"current" => CURRENT,
+        list => list,
+    }
+}
+
 fn date(at: usize) -> String {
     let d = calendar().days[at];
     format!("{:04}-{:02}-{:02}", d.year, d.month, d.day)
@@ -124,8 +136,7 @@ impl Desk {
         if let Some(found) = self.lists.get(word) {
             return found.clone();
         }
-        let list = if word == b"current" { CURRENT } else { word };
-        let looked = match text::parse(list) {
+        let looked = match text::parse(text_of(word)) {
             Ok(schedule) => {
                 let prepared = Prepared::of(&schedule);
                 Ok(Rc::new(List { schedule, prepared }))
@@ -182,6 +193,15 @@ impl Desk {
                 let (mjd, nanos) = (n(mjd)?, n(nanos)?);
                 let (r, micros) = self.list(list)?.prepared.uts_to_utc(mjd, nanos);
                 timed(r, &[micros.into()])
+            }
+            [b"compare", first, second] => {
+                let lines = compare::lines(text_of(first), text_of(second));
+                Reply::Answer(lines.map_err(|number| Reply::Refused(number.to_string()))?)
+            }
+            [b"longer", first, second] => {
+                let longer = compare::longer(text_of(first), text_of(second));
+                let list = longer.map_err(|number| Reply::Refused(format!("!{number}")))?;
+                Reply::Answer(vec![String::from_utf8_lossy(list).into_owned()])
             }
             _ => Reply::NoQuestion,
         })

@@ -1,4 +1,5 @@
-//! The figures of 01 and the tables of document 002, run and compared.
+//! The figures of 01, the example of request 7/14 and the tables of document
+//! 002, run and compared.
 //!
 //! One figure a line:
 //!
@@ -24,6 +25,7 @@
 //! utc LIST TAI             NUMBER MJD MICROS
 //! uts LIST MJD MICROS      NUMBER NANOS
 //! unsmooth LIST MJD NANOS  NUMBER MICROS
+//! compare LIST LIST        NUMBER and the lines, `; ` between them
 //! ```
 //!
 //! The expected values stand here as the papers give them. Table rows of 002
@@ -34,8 +36,8 @@ use std::fmt;
 use crate::ask::{from_hex, to_hex};
 use crate::calendar::month_start;
 use crate::{
-    dtai, read_nybbles, read_text, tai_to_utc, utc_to_tai, utc_to_uts, uts_to_utc, well_formed,
-    write_nybbles, write_text, Raw, Reading,
+    compare_text, dtai, read_nybbles, read_text, tai_to_utc, utc_to_tai, utc_to_uts, uts_to_utc,
+    well_formed, write_nybbles, write_text, Raw, Reading,
 };
 
 pub struct Figure {
@@ -212,6 +214,16 @@ impl Page {
         let (number, value) = uts_to_utc(&list(text), mjd, nanos);
         let input = format!("unsmooth {text} {mjd} {nanos}");
         self.put(name, input, format!("{number} {value}"), expected);
+    }
+
+    fn compare(&mut self, name: &str, first: &str, second: &str, expected: &str) {
+        let mut out = [0; 8192];
+        let (number, count) = compare_text(first.as_bytes(), second.as_bytes(), &mut out);
+        let text = String::from_utf8_lossy(&out[..count as usize]).into_owned();
+        let lines: Vec<&str> = text.split_terminator('\n').collect();
+        let input = format!("compare {first} {second}");
+        let result = format!("{number} {}", lines.join("; "));
+        self.put(name, input, result, expected);
     }
 
     fn table(&mut self, name: &str, text: &str, rows: &[(u64, &str, &str)]) {
@@ -418,6 +430,14 @@ pub fn figures() -> Vec<Figure> {
     );
     p.dtai("Z", "5?", 41_468, "0 10");
     p.dtai("the day after Z", "5?", 41_469, "10 0");
+
+    // 02, request 7/14.
+    p.compare(
+        "7/14",
+        "6+6+5?",
+        "6+12+5?",
+        "0 12 + 0; 18 ? +; = 17 23; contradict",
+    );
 
     // Document 002's tables, there and back.
     p.table("002 inserted", plus, &INSERTED);

@@ -3,7 +3,8 @@
 //! `second months`    the month of every day in the lines of the proved program (see months.rs)
 //! `second ask`       a question a line from standard input, an answer a line
 //! `second WORD ..`   one question of `ask` given as arguments, which a space
-//!                    joins to a line; `show` then prints a line a stretch
+//!                    joins to a line; what `ask` joins by `; ` is then
+//!                    printed a line each
 //!
 //! Exit status: 0; 1 if a figure is wrong or a single question is refused;
 //! 2 for what is no question.

@@ -1,4 +1,5 @@
-//! The eleven refusal numbers of 01. An accepted answer carries 0.
+//! The refusal numbers: the eleven of 01, and those that requests of 02 add. An
+//! accepted answer carries 0.
 
 pub const ACCEPTED: u8 = 0;
 pub const ENDS_EARLY: u8 = 1;
@@ -12,3 +13,4 @@ pub const BEFORE_1972: u8 = 8;
 pub const NO_SUCH_INSTANT: u8 = 9;
 pub const NOT_KNOWN: u8 = 10;
 pub const NOT_WELL_FORMED: u8 = 11;
+pub const CONTRADICTION: u8 = 16;

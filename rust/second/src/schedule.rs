@@ -199,12 +199,3 @@ impl Laying {
 pub fn well_formed(raw: &Raw) -> bool {
     Schedule::from_raw(raw).is_some()
 }
-
-/// Whether the first list extends the second: the shorter strip is the start
-/// of the longer one. False if either list isn't well formed.
-pub fn extends(longer: &Raw, shorter: &Raw) -> bool {
-    match (Schedule::from_raw(longer), Schedule::from_raw(shorter)) {
-        (Some(l), Some(s)) => l.strip.starts_with(&s.strip),
-        _ => false,
-    }
-}

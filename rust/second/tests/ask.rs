@@ -1,4 +1,4 @@
-use second::ask::{run, Desk};
+use second::ask::{run, Desk, CURRENT};
 
 fn line(question: &str) -> String {
     Desk::new().line(question.as_bytes())
@@ -25,6 +25,51 @@ fn answers() {
     assert_eq!(line("uts 6+5? 41498 86400000000"), "86399001000000");
     assert_eq!(line("unsmooth 6+5? 41498 86399001000000"), "86400000000");
     assert_eq!(line("dtai 5? 00000000000000000000000041317"), "10");
+}
+
+#[test]
+fn two_lists() {
+    assert_eq!(
+        line("compare 6+6+5? 6+12+5?"),
+        "12 + 0; 18 ? +; = 17 23; contradict"
+    );
+    assert_eq!(line("compare 6? 6+5?"), "6 ? +; = 6 11; extends 2");
+    assert_eq!(line("compare 11? 6+5?"), "6 0 +; contradict");
+    assert_eq!(line("compare 5? 5?"), "same");
+    assert_eq!(line("compare current current"), "same");
+    // The built-in list's second leap is at month 12, its expiry at 665.
+    assert_eq!(
+        line("compare 6+5? current").split("; ").next(),
+        Some("12 ? +")
+    );
+    assert!(line("compare 6+5? current").ends_with("; 540 ? +; = 11 665; extends 2"));
+    assert_eq!(line("longer 6? 6+5?"), "6+5?");
+    assert_eq!(line("longer 6+5? 6?"), "6+5?");
+    assert_eq!(line("longer 5? 5?"), "5?");
+    assert_eq!(line("longer current 6+5?").as_bytes(), CURRENT);
+    assert_eq!(line("longer 6+5? current").as_bytes(), CURRENT);
+    assert_eq!(line("longer current current").as_bytes(), CURRENT);
+}
+
+#[test]
+fn two_lists_refused() {
+    // The number alone.
+    assert_eq!(line("compare 06+5? 5?"), "3");
+    assert_eq!(line("compare 5? 06+5?"), "3");
+    assert_eq!(line("compare x 06+5?"), "2");
+    assert_eq!(line("compare 5? 5?\r"), "6");
+    assert_eq!(line("longer 06+5? 5?"), "!3");
+    assert_eq!(line("longer 5? 06+5?"), "!3");
+    assert_eq!(line("longer x 06+5?"), "!2");
+    assert_eq!(line("longer 6+6+5? 6+12+5?"), "!16");
+    assert_eq!(line("longer 6-5? current"), "!16");
+    // An empty field is an empty list.
+    assert_eq!(line("compare 5? "), "1");
+    assert_eq!(line("compare  5?"), "1");
+    assert_eq!(line("compare  "), "1");
+    assert_eq!(line("longer 5? "), "!1");
+    assert_eq!(line("longer  5?"), "!1");
+    assert_eq!(line("longer  "), "!1");
 }
 
 #[test]
@@ -101,6 +146,15 @@ fn no_questions() {
         "text 0g",
         "text f4 ",
         "text",
+        "compare",
+        "compare ",
+        "compare 5?",
+        "compare 5? 5? ",
+        "compare 5?  5?",
+        "compare 5? 5? 5?",
+        "longer",
+        "longer 5?",
+        "longer 5? 5? 5?",
         "ask",
         "figures",
         "text +4",

@@ -17,7 +17,7 @@ fn figures_are_told_apart_and_complete() {
     for n in ["P1", "P2", "P3", "P4", "P5", "P6", "P7", "P8", "P9", "P10"] {
         assert!(names.contains(n), "{n}");
     }
-    for n in ["P11a", "P11b", "P12a", "P12b", "A", "B"] {
+    for n in ["P11a", "P11b", "P12a", "P12b", "A", "B", "7/14"] {
         assert!(names.contains(n), "{n}");
     }
     let rows = all.iter().filter(|f| f.name.starts_with("002 ")).count();

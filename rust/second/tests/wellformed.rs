@@ -131,21 +131,3 @@ fn broken_at_random() {
     }
     assert!(seen.iter().all(|&n| n > 1_000), "{seen:?}");
 }
-
-#[test]
-fn extension() {
-    let s = raw(&[(6, 0)], 11);
-    assert!(extends(&s, &s));
-    assert!(extends(&raw(&[(6, 0)], 12), &s));
-    assert!(!extends(&s, &raw(&[(6, 0)], 12)));
-    assert!(extends(&raw(&[(6, 0), (11, 1)], 12), &s));
-    assert!(!extends(&raw(&[(6, 0), (10, 1)], 12), &s));
-    assert!(!extends(&raw(&[(6, 1)], 12), &s));
-    assert!(!extends(&raw(&[], 12), &s));
-    assert!(!extends(&raw(&[(7, 0)], 12), &s));
-    assert!(!extends(&raw(&[(6, 0)], 10), &s));
-    assert!(extends(&s, &raw(&[], 6)));
-    assert!(!extends(&s, &raw(&[], 7)));
-    assert!(!extends(&s, &Raw::blank()));
-    assert!(!extends(&Raw::blank(), &s));
-}

@@ -1,0 +1,80 @@
+//! Two lists: where they part, which is the longer, and whether one extends the
+//! other.
+
+use crate::ffi;
+use crate::refusal::Refusal;
+use crate::schedule::{answer, Schedule};
+
+/// Room for any comparison, as `leap.h` says.
+const COMPARISON_ROOM: usize = 4629;
+
+/// Compares two text lists, in lines that each end with LF.
+///
+/// For each month at which either list has a leap and their marks differ there
+/// is a line: the month, the first list's mark and the second's. A mark is `+`,
+/// `-`, `0`, or `?` at and after that list's expiry month. Then, if the expiry
+/// months differ, there is a line of `=` and both. The last line is `same`,
+/// `extends 1` (the first extends the second), `extends 2` or `contradict`.
+///
+/// A list that does not read refuses with its own refusal, the first list's
+/// before the second's.
+///
+/// ```
+/// # use leap::Refusal;
+/// assert_eq!(leap::compare(b"6?", b"6+5?")?, "6 ? +\n= 6 11\nextends 2\n");
+/// assert_eq!(leap::compare(b"11?", b"6+5?")?, "6 0 +\ncontradict\n");
+/// assert_eq!(leap::compare(b"6+5?", b"6+5?")?, "same\n");
+/// assert_eq!(leap::compare(b"06+5?", b"5?"), Err(Refusal::BadGap));
+/// # Ok::<(), Refusal>(())
+/// ```
+pub fn compare(first: &[u8], second: &[u8]) -> Result<String, Refusal> {
+    let mut room = [0; COMPARISON_ROOM];
+    let mut written = 0;
+    answer(ffi::compare_text(first, second, &mut room, &mut written))?;
+    // The comparison is ASCII, a character a byte.
+    let bytes = room[..written as usize].iter();
+    Ok(bytes.copied().map(char::from).collect())
+}
+
+/// Of two text lists that do not contradict each other, the longer one: the
+/// given slice itself, and the first if they are the same.
+///
+/// A list that does not read refuses with its own refusal, the first list's
+/// before the second's.
+///
+/// ```
+/// # use leap::Refusal;
+/// let (stored, offered) = (b"6+5?", b"6+6?");
+/// assert_eq!(leap::longer(stored, offered), Ok(&offered[..]));
+/// let contradicting = b"6-5?";
+/// assert_eq!(leap::longer(stored, contradicting), Err(Refusal::Contradiction));
+/// ```
+pub fn longer<'a>(first: &'a [u8], second: &'a [u8]) -> Result<&'a [u8], Refusal> {
+    let mut part = &first[..0];
+    answer(ffi::longer_text(first, second, &mut part))?;
+    Ok(part)
+}
+
+impl Schedule {
+    /// Whether this schedule extends a shorter one: its leaps below that one's
+    /// expiry month are all of that one's leaps, and it expires no earlier. It
+    /// may then replace that one, since it keeps every answer.
+    ///
+    /// ```
+    /// # use leap::{Refusal, Schedule};
+    /// let stored = Schedule::from_text(b"6+5?")?;
+    /// let with_a_leap = Schedule::from_text(b"6+5-1?")?;
+    /// assert_eq!(with_a_leap.extends(&stored), Ok(true));
+    /// assert_eq!(stored.extends(&stored), Ok(true));
+    /// let without = Schedule::from_text(b"12?")?;
+    /// assert_eq!(without.extends(&stored), Ok(false));
+    /// let blank = Schedule::new(&[], 0);
+    /// assert_eq!(stored.extends(&blank), Err(Refusal::NotWellFormed));
+    /// # Ok::<(), leap::ReadError>(())
+    /// ```
+    pub fn extends(&self, shorter: &Schedule) -> Result<bool, Refusal> {
+        let mut yes = 0;
+        answer(ffi::extends(self.words(), shorter.words(), &mut yes))?;
+        Ok(yes != 0)
+    }
+}
