@@ -13,7 +13,8 @@ use Rattle.text.proofs.Spelling.{one-spelling}
 use Rattle.compare.specs.declared.longer.Chosen.{Chosen}
 use Rattle.compare.specs.declared.longer.Chosen.the-variants.{First, Second, Refused}
 use Rattle.compare.specs.Longer.{chosen}
-use Rattle.compare.proofs.Handed.{Taken, both-read}
+use Rattle.compare.proofs.TwoTexts.{Taken}
+use Rattle.compare.proofs.Handed.{both-read}
 use Rattle.line.specs.Refusal.{refusal}
 use Rattle.answers.specs.Lists.{longerBy}
 

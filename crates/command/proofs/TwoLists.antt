@@ -18,7 +18,7 @@ use Rattle.compare.specs.declared.longer.Chosen.{Chosen}
 use Rattle.compare.specs.declared.longer.Chosen.the-variants.{First, Second, Refused}
 use Rattle.compare.specs.Compare.{hasLeap, leapMark, isUnknown, mark, lineAt, linesFrom, differences, expiries, relationBy, comparison, comparisonOf}
 use Rattle.compare.specs.Longer.{chosen}
-use Rattle.compare.proofs.Handed.{Taken}
+use Rattle.compare.proofs.TwoTexts.{Taken}
 use Rattle.answers.specs.Lists.{longerBy}
 use Rattle.answers.proofs.Chosen.{first-read, second-read}
 use Rattle.command.proofs.Unbroken.{hasNo, Unbroken, empty, more, append, either, sign, in-decimal, in-text, in-refusal, in-between}

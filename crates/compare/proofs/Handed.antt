@@ -1,44 +1,23 @@
--- What a comparison and a handing back of two texts answer: the order of their refusals, that a refused comparison changes nothing, and that
--- what is handed back extends the other list. Assumes nothing.
+-- A refused comparison changes nothing, and what is handed back extends the other list. Assumes nothing.
 use mathlib.Core.Path.{_≡_, refl, sym, ap, _∙_}
 use mathlib.Core.Bool.{false, true≢false}
 use mathlib.Core.List.{List, []}
 use mathlib.Core.Logic.{_≢_, _⊎_, inl, inr}
 use Prim.Native.Nat.{ℕ}
-use lib.Dec.{eqb, leb}
+use lib.Dec.{leb}
 use lib.ListN.{length}
-use borrow.Author.Tests.{eqb-true, eqb-false}
 use denote.Ref.{RefT, now}
 use Rattle.schedule.specs.declared.Schedule.{Schedule}
 use Rattle.schedule.specs.Answers.{unwritten, fitting, fitted}
 use Rattle.schedule.specs.Extends.{Extends, extends}
 use Rattle.schedule.proofs.Cases.{by-bool}
-use Rattle.schedule.proofs.ByReading.{read-refused, read-taken}
 use Rattle.schedule.proofs.Extension.{means, tests}
 use Rattle.text.specs.Read.{readText}
 use Rattle.compare.specs.declared.longer.Chosen.{Chosen}
 use Rattle.compare.specs.declared.longer.Chosen.the-variants.{First, Second, Refused}
-use Rattle.compare.specs.Longer.{aboutBoth, chosenOf, chosen, HandsBack}
+use Rattle.compare.specs.Longer.{chosenOf, chosen, HandsBack}
 use Rattle.compare.specs.Compare.{compared, comparing, comparedInto}
-
--- the list that a text is read as
-abbrev pub listOf : List ℕ → Schedule
-listOf x = readText x .schedule
-
--- a text that is read
-abbrev pub Taken : List ℕ → Type 0
-Taken x = readText x .number ≡ 0
-
-module _ {A : Type 0} (x y : List ℕ) (refuse : ℕ → A) (f : Schedule → Schedule → A) where
-  -- the first list's refusal, then the second's, the number alone
-  pub first-refused : readText x .number ≢ 0 → aboutBoth x y refuse f ≡ refuse (readText x .number)
-  first-refused n = read-refused _ _ refl n
-
-  pub second-refused : Taken x → readText y .number ≢ 0 → aboutBoth x y refuse f ≡ refuse (readText y .number)
-  second-refused t n = read-taken _ _ refl t ∙ read-refused _ _ refl n
-
-  pub both-taken : Taken x → Taken y → aboutBoth x y refuse f ≡ f (listOf x) (listOf y)
-  both-taken t u = read-taken _ _ refl t ∙ read-taken _ _ refl u
+use Rattle.compare.proofs.TwoTexts.{listOf, Taken, first-refused, second-refused, both-taken, by-texts}
 
 -- ---- comparing
 
@@ -49,15 +28,8 @@ unfit bytes out n = by-bool (leb (length bytes) (length out)) (λ t. absurd (n (
 -- a comparison that is refused, with whatever number, changes nothing of the output
 pub refused-keeps : (x y out : List ℕ) → comparing x y (length out) .number ≢ 0 → comparedInto x y out ≡ out
 refused-keeps x y out n =
-    by-bool (eqb (readText x .number) 0)
-    (λ t.
-    let p = eqb-true (readText x .number) 0 t in
-    by-bool (eqb (readText y .number) 0)
-    (λ u.
-    let q = eqb-true (readText y .number) 0 u in
-    both-taken x y _ _ p q ∙ unfit (compared (listOf x) (listOf y)) out (λ z. n (ap (λ w. w .number) (both-taken x y unwritten _ p q) ∙ z)))
-    (λ u. second-refused x y _ _ p (eqb-false (readText y .number) 0 u)))
-    (λ t. first-refused x y _ _ (eqb-false (readText x .number) 0 t))
+    by-texts x y (λ k. first-refused x y _ _ k) (λ t k. second-refused x y _ _ t k)
+    (λ t u. both-taken x y _ _ t u ∙ unfit (compared (listOf x) (listOf y)) out (λ z. n (ap (λ w. w .number) (both-taken x y unwritten _ t u) ∙ z)))
 
 -- ---- handing back
 
@@ -85,12 +57,9 @@ chosen-extends x y t u = rw (both-taken x y Refused chosenOf t u) (chosen-by x y
 -- where one is chosen, both are read
 pub both-read : (x y : List ℕ) → ((n : ℕ) → chosen x y ≢ Refused n) → Taken x × Taken y
 both-read x y k =
-    by-bool (eqb (readText x .number) 0)
-    (λ t.
-    let p = eqb-true (readText x .number) 0 t in
-    by-bool (eqb (readText y .number) 0) (λ u. (p, eqb-true (readText y .number) 0 u))
-    (λ u. absurd (k (readText y .number) (second-refused x y Refused chosenOf p (eqb-false (readText y .number) 0 u)))))
-    (λ t. absurd (k (readText x .number) (first-refused x y Refused chosenOf (eqb-false (readText x .number) 0 t))))
+    by-texts x y (λ n. absurd (k (readText x .number) (first-refused x y Refused chosenOf n)))
+    (λ t n. absurd (k (readText y .number) (second-refused x y Refused chosenOf t n)))
+    (λ t u. (t, u))
 
 -- so what is handed back of two lists that are read is one of the two references that were lent, with 0, and its list extends that of the other;
 -- or, with 16, nothing, where neither extends the other

@@ -1,4 +1,5 @@
 -- The laws of two lists that the crates above cite.
+pub mod TwoTexts
 pub mod Marks
 pub mod Told
 pub mod Places

@@ -3,19 +3,22 @@
 use mathlib.Core.Path.{_≡_, refl, sym, ap, _∙_}
 use mathlib.Core.Bool.{Bool, true, false, not, _||_, cond}
 use mathlib.Core.List.{List, [], _∷_}
+use mathlib.Core.Logic.{_↔_}
 use Prim.Native.Nat.{ℕ, _≤_}
 use lib.Dec.{eqb}
 use native.Mathlib.Omega.{arith}
-use borrow.Author.Tests.{ne-eqb}
+use borrow.Author.Tests.{ne-eqb, eqb-false}
 use Rattle.format.specs.Ascii.{zeroByte}
 use Rattle.schedule.specs.declared.Sign.{Sign}
 use Rattle.schedule.specs.declared.Sign.the-variants.{Positive, Negative}
 use Rattle.schedule.specs.declared.Leap.{Leap}
-use Rattle.schedule.specs.Schedule.{gapsFit}
+use Rattle.schedule.specs.declared.Schedule.{Schedule}
+use Rattle.schedule.specs.Schedule.{leapsOf, gapsFit}
 use Rattle.schedule.proofs.Cases.{by-bool}
+use Rattle.schedule.proofs.Expired.{is-expired, expired-from}
 use Rattle.schedule.proofs.Gaps.{fits-lt, first, later}
 use Rattle.text.specs.Bytes.{signByte, endByte}
-use Rattle.compare.specs.Compare.{hasLeap, leapMark}
+use Rattle.compare.specs.Compare.{hasLeap, leapMark, isUnknown, mark}
 
 pub sign-some : (g : Sign) → eqb (signByte g) zeroByte ≡ false
 sign-some Positive = refl
@@ -45,3 +48,15 @@ pub never-unknown : (ls : List Leap) (m : ℕ) → eqb (leapMark ls m) endByte �
 unfolding leapMark
 never-unknown [] m = refl
 never-unknown (l ∷ ls) m = by-bool (eqb (l .month) m) (λ t. rw (t, sign-known (l .sign))) (λ f. rw f (never-unknown ls m))
+
+-- the mark is `?` exactly at and after the list's expiry
+pub unknown-exactly : (s : Schedule) (m : ℕ) → (mark s m ≡ 63) ↔ (s .expiry ≤ m)
+unknown-exactly s m = (
+  λ e.
+      by-bool (isUnknown s m) (λ t. expired-from (s .expiry) m t)
+      (λ f. absurd (eqb-false (leapMark (leapsOf s) m) endByte (never-unknown (leapsOf s) m) (sym (unknown-not f) ∙ e))),
+  λ h. ap (λ b. cond b endByte (leapMark (leapsOf s) m)) (is-expired (s .expiry) m h),
+)
+  where
+    unknown-not : isUnknown s m ≡ false → mark s m ≡ leapMark (leapsOf s) m
+    unknown-not f = ap (λ b. cond b endByte (leapMark (leapsOf s) m)) f

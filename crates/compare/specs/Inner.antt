@@ -8,9 +8,18 @@ use lib.ListN.{drop}
 use Rattle.format.specs.Ascii.{zeroByte}
 use Rattle.schedule.specs.declared.Leap.{Leap}
 use Rattle.schedule.specs.declared.Schedule.{Schedule}
-use Rattle.schedule.specs.Schedule.{leapsOf}
+use Rattle.schedule.specs.Schedule.{blankSchedule, leapsOf}
 use Rattle.text.specs.Bytes.{signByte, endByte}
+use Rattle.compare.specs.declared.texts.Both.{Both}
+use Rattle.compare.specs.Longer.{aboutBoth}
 use Rattle.compare.specs.Compare.{isUnknown, lineOf}
+
+-- what reading two texts gives: the number of the first refusal, or 0 and both lists
+abbrev pub notRead : ℕ → Both
+notRead n = record { number = n; first = blankSchedule; second = blankSchedule }
+
+unfoldable pub bothRead : List ℕ → List ℕ → Both
+bothRead x y = aboutBoth x y notRead (λ a b. record { number = 0; first = a; second = b })
 
 -- past the last month
 abbrev pub pastMonths : ℕ

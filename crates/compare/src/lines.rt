@@ -10,6 +10,7 @@ ghost use Rattle.schedule.specs.Schedule.{wellFormed};
 ghost use Rattle.schedule.specs.Answers.{fitting, fitted};
 ghost use Rattle.compare.specs.Compare.{isUnknown, differences, expiries, relationBy, comparison, compared, comparing, comparedInto, comparisonOf};
 ghost use Rattle.compare.specs.Inner.{firstMonth, leapsFrom, markOfLeap, markFrom, markLine};
+use crate::texts::read_both;
 use format::decimal::put_decimal;
 use format::lines::put_between;
 use format::output::put;
@@ -136,15 +137,15 @@ fn put_expiries(out: &mut [u8], at: usize, lines: bool, a: Schedule, b: Schedule
     requires { ⌜ (wellFormed a ≡ true) × (wellFormed b ≡ true) ⌝ }
     ensures { λ r. ⌜ PutsUpTo 13 (now (out .entry)) (now (out .exit)) at r (expiries (between lines) a b) ⌝ }
 {
-    let x = a.expiry;
-    let y = b.expiry;
-    if x == y {
+    let first = a.expiry;
+    let second = b.expiry;
+    if first == second {
         return at;
     }
     let c = put_all(out, at, b"= ");
-    let d = put_decimal(out, c, x as u64);
+    let d = put_decimal(out, c, first as u64);
     let e = put(out, d, b' ');
-    let f = put_decimal(out, e, y as u64);
+    let f = put_decimal(out, e, second as u64);
     put_between(out, f, lines)
 }
 
@@ -198,24 +199,13 @@ fn write_comparison(a: Schedule, b: Schedule, out: &mut [u8]) -> Writing
 pub fn compare_text(x: &[u8], y: &[u8], out: &mut [u8]) -> Writing
     ensures { λ r. ⌜ (r ≡ comparing (now (x .entry)) (now (y .entry)) (length (now (out .entry)))) × (now (out .exit) ≡ comparedInto (now (x .entry)) (now (y .entry)) (now (out .entry))) ⌝ }
 {
-    let first = text::read_text(x);
-    let n = first.number;
-    if n != 0 {
-        return Writing {
-            number: n,
-            count: 0,
-        };
+    let lists = read_both(x, y);
+    let number = lists.number;
+    if number != 0 {
+        return Writing { number, count: 0 };
     }
-    let second = text::read_text(y);
-    let m = second.number;
-    if m != 0 {
-        return Writing {
-            number: m,
-            count: 0,
-        };
-    }
-    let a = first.schedule;
-    let b = second.schedule;
+    let a = lists.first;
+    let b = lists.second;
     write_comparison(a, b, out)
 }
 
@@ -229,17 +219,12 @@ fn wide(x: u8) -> u64
 pub fn put_compared(out: &mut [u8], at: usize, lines: bool, x: &[u8], y: &[u8]) -> usize
     ensures { λ r. ⌜ PutsUpTo 5143 (now (out .entry)) (now (out .exit)) at r (comparisonOf lines (now (x .entry)) (now (y .entry))) ⌝ }
 {
-    let first = text::read_text(x);
-    let n = first.number;
-    if n != 0 {
-        return put_decimal(out, at, wide(n));
+    let lists = read_both(x, y);
+    let number = lists.number;
+    if number != 0 {
+        return put_decimal(out, at, wide(number));
     }
-    let second = text::read_text(y);
-    let m = second.number;
-    if m != 0 {
-        return put_decimal(out, at, wide(m));
-    }
-    let a = first.schedule;
-    let b = second.schedule;
+    let a = lists.first;
+    let b = lists.second;
     put_comparison(out, at, lines, a, b)
 }
