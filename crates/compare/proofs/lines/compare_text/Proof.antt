@@ -21,11 +21,10 @@ returns-2 : tie.Need-returns-2
 returns-2 c =
     let write-comparison = c .before .before .write-comparison in
     let read-both = c .before .before .before .before .before .before .before .read-both in
-    let if1 = c .before .before .before .before .before .before .if1 in
-    (
-  write-comparison .ensures .0 ∙ sym (taken _ _ (read-both .ensures) (if1 .left) _ _),
-  write-comparison .ensures .1 ∙ sym (taken _ _ (read-both .ensures) (if1 .left) _ _),
-)
+    let if1 = c .before .before .before .before .before .before .if1 in (
+      write-comparison .ensures .0 ∙ sym (taken _ _ (read-both .ensures) (if1 .left) _ _),
+      write-comparison .ensures .1 ∙ sym (taken _ _ (read-both .ensures) (if1 .left) _ _),
+    )
 
 pub compare-text-spec : {M : Type 1} → statement M
 compare-text-spec = tie.close (tie.spec (λ c κs. search needs) returns write-comparison-requires (λ c. search needs) returns-2)
