@@ -1,12 +1,11 @@
 -- The longer of two texts as it is put: a text that is chosen is read, and so has at most 1,028 bytes. Assumes nothing.
-use mathlib.Core.Path.{_≡_, refl, sym, ap, _∙_}
+use mathlib.Core.Path.{_≡_, sym, _∙_}
 use mathlib.Core.List.{List}
 use mathlib.Core.Logic.{_≢_, _⊎_, inl, inr}
 use Prim.Native.Nat.{ℕ, _≤_}
 use native.Mathlib.Omega.{arith}
 use lib.ListN.{length}
 use Rattle.text.specs.Read.{readText}
-use Rattle.text.specs.Write.{textOf}
 use Rattle.text.proofs.Room.{at-most}
 use Rattle.text.proofs.Sound.{accepted-well-formed}
 use Rattle.text.proofs.Spelling.{one-spelling}

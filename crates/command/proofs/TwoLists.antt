@@ -1,7 +1,7 @@
 -- No byte is LF in what is answered about two lists. Assumes nothing.
-use mathlib.Core.Path.{_≡_, refl, sym, _∙_}
-use mathlib.Core.Bool.{Bool, true, false, not, _&&_, _||_, cond}
-use mathlib.Core.List.{List, [], _∷_, _++_}
+use mathlib.Core.Path.{_≡_, refl}
+use mathlib.Core.Bool.{Bool, true, false, not, _&&_, _||_}
+use mathlib.Core.List.{List, [], _∷_}
 use Prim.Native.Nat.{ℕ, zero, suc, _+_}
 use lib.Dec.{eqb}
 use Rattle.format.specs.Lines.{newline, between}
@@ -16,7 +16,7 @@ use Rattle.text.specs.Read.{readText}
 use Rattle.text.proofs.Spelling.{one-spelling}
 use Rattle.compare.specs.declared.longer.Chosen.{Chosen}
 use Rattle.compare.specs.declared.longer.Chosen.the-variants.{First, Second, Refused}
-use Rattle.compare.specs.Compare.{hasLeap, leapMark, isUnknown, mark, lineAt, linesFrom, differences, expiries, relationBy, comparison, comparisonOf}
+use Rattle.compare.specs.Compare.{hasLeap, leapMark, isUnknown, mark, lineAt, linesFrom, expiries, relationBy, comparison, comparisonOf}
 use Rattle.compare.specs.Longer.{chosen}
 use Rattle.compare.proofs.TwoTexts.{Taken}
 use Rattle.answers.specs.Lists.{longerBy}

@@ -1,7 +1,7 @@
 -- The leaps of a list that lie before a month, and those at or after it.
 -- Assumes nothing.
 use mathlib.Core.Path.{_≡_, refl, sym, ap, _∙_}
-use mathlib.Core.Bool.{Bool, true, false, not, cond}
+use mathlib.Core.Bool.{true, false, cond}
 use mathlib.Core.List.{List, [], _∷_}
 use Prim.Native.Nat.{ℕ, _+_, _≤_, _<_}
 use native.Mathlib.Decide.{decLt}
@@ -14,12 +14,12 @@ use Rattle.schedule.specs.declared.Leap.{Leap}
 use Rattle.schedule.specs.declared.Schedule.{Schedule}
 use Rattle.schedule.specs.Schedule.{noLeap, leapsOf, gapsFit, wellFormed}
 use Rattle.schedule.proofs.Cases.{by-bool}
-use Rattle.schedule.proofs.Gaps.{fits-lt, first, later, before-end, parts}
+use Rattle.schedule.proofs.Gaps.{fits-lt, first, later, parts}
 use Rattle.text.specs.Bytes.{endByte}
 use Rattle.compare.specs.Compare.{leapMark, isUnknown, mark}
 use Rattle.compare.specs.Inner.{pastMonths, firstMonth, leapsFrom, firstMark, markFrom}
 use Rattle.compare.proofs.Marks.{sign-some, none-yet}
-use Rattle.compare.proofs.Places.{here, none, first-here, first-none}
+use Rattle.compare.proofs.Places.{here, first-here, first-none}
 
 -- up to the first leap's month the first leap alone gives the mark
 first-gives : (ls : List Leap) (from e k : ℕ) → gapsFit from ls e ≡ true → k ≤ firstMonth ls → leapMark ls k ≡ firstMark ls k

@@ -1,6 +1,6 @@
 -- The loop over the months at which either list has a leap: what holds at each, and what is put when it has ended.
 -- Assumes nothing.
-use mathlib.Core.Path.{_≡_, refl, sym, ap, _∙_}
+use mathlib.Core.Path.{_≡_, refl, ap, _∙_}
 use mathlib.Core.Bool.{Bool, true, false, not, _&&_, _||_, cond}
 use mathlib.Core.List.{List, [], _∷_, _++_}
 use Prim.Native.Nat.{ℕ, zero, suc, _+_, _-_, _*_, _≤_, _<_, min}
@@ -18,7 +18,7 @@ use Rattle.schedule.specs.declared.Schedule.{Schedule}
 use Rattle.schedule.specs.Schedule.{leapsOf, gapsFit, wellFormed}
 use Rattle.schedule.proofs.Cases.{by-bool}
 use Rattle.schedule.proofs.Gaps.{later, before-end, parts}
-use Rattle.compare.specs.Compare.{hasLeap, leapMark, mark, lineOf, lineAt, linesFrom, differences}
+use Rattle.compare.specs.Compare.{hasLeap, leapMark, lineOf, lineAt, linesFrom, differences}
 use Rattle.compare.specs.Inner.{pastMonths, firstMonth, leapsFrom, markFrom, markLine}
 use Rattle.compare.proofs.Marks.{leap-marked}
 use Rattle.compare.proofs.Ahead.{Ahead, begin, later-month, no-leap, has-leap, mark-is, past, counts}

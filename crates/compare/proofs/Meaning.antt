@@ -1,18 +1,17 @@
 -- What the lines of a comparison mean: which months have one, what the last one says, and when it stands alone.
 -- Assumes nothing.
 use mathlib.Core.Path.{_≡_, refl, sym, ap, _∙_}
-use mathlib.Core.Bool.{Bool, true, false, not, _&&_, _||_, cond, true≢false, and-eq-true-iff}
-use mathlib.Core.List.{List, [], _∷_, _++_}
+use mathlib.Core.Bool.{Bool, true, false, not, _&&_, _||_, true≢false, and-eq-true-iff}
+use mathlib.Core.List.{List, [], _∷_}
 use mathlib.Core.Logic.{_↔_, _≢_, _⊎_, inl, inr, ⊎-elim}
-use Prim.Native.Nat.{ℕ, zero, suc, _+_, _≤_, _<_}
-use native.Mathlib.Decide.{decLe}
+use Prim.Native.Nat.{ℕ, _<_}
 use native.Mathlib.Omega.{arith}
 use lib.Dec.{eqb}
 use lib.ListN.{length, getD, length-append}
 use borrow.Author.Tests.{eqb-true, eqb-false, eq-eqb, ne-eqb}
 use Rattle.format.specs.Ascii.{ascii, zeroByte}
 use Rattle.format.specs.Decimal.{decimal}
-use Rattle.format.specs.Lines.{newline, spaceByte, between}
+use Rattle.format.specs.Lines.{spaceByte}
 use Rattle.schedule.specs.declared.Sign.{Sign}
 use Rattle.schedule.specs.declared.Sign.the-variants.{Positive, Negative}
 use Rattle.schedule.specs.declared.Leap.{Leap}
@@ -20,14 +19,13 @@ use Rattle.schedule.specs.declared.Schedule.{Schedule}
 use Rattle.schedule.specs.Schedule.{maxLeaps, leapsOf, isExpired, gapsFit, wellFormed}
 use Rattle.schedule.specs.Extends.{Extends, extends}
 use Rattle.schedule.proofs.Cases.{by-bool}
-use Rattle.schedule.proofs.Expired.{not-expired, known-until}
+use Rattle.schedule.proofs.Expired.{not-expired}
 use Rattle.schedule.proofs.Extension.{extends-itself, means, tests}
 use Rattle.schedule.proofs.Gaps.{later, before-end, parts}
 use Rattle.schedule.proofs.Order.{both-ways}
 use Rattle.text.specs.Bytes.{signByte, endByte}
-use Rattle.compare.specs.Compare.{hasLeap, leapMark, mark, lineOf, lineAt, linesFrom, differences, expiries, relationBy, relation, comparison, compared}
+use Rattle.compare.specs.Compare.{hasLeap, leapMark, mark, lineOf, lineAt, relationBy, relation}
 use Rattle.compare.proofs.Marks.{leap-marked, never-unknown}
-use Rattle.compare.proofs.Told.{marks-kept, by-marks}
 
 -- ---- the last line
 

@@ -9,10 +9,10 @@ use native.Mathlib.Nat.{not-suc-le-zero, le-of-suc-le-suc, eq-or-lt-of-le}
 use native.Mathlib.Decide.{decLe}
 use native.Mathlib.Omega.{arith}
 use lib.Dec.{eqb}
-use lib.ListN.{length, length-append}
+use lib.ListN.{length}
 use borrow.Author.Tests.{eqb-true, eqb-false, eq-eqb}
 use Rattle.format.specs.Ascii.{ascii, zeroByte}
-use Rattle.format.specs.Lines.{newline, between}
+use Rattle.format.specs.Lines.{newline}
 use Rattle.schedule.specs.declared.Schedule.{Schedule}
 use Rattle.schedule.specs.Schedule.{maxLeaps, leapsOf, isExpired, wellFormed}
 use Rattle.schedule.specs.Extends.{Extends}
@@ -20,8 +20,7 @@ use Rattle.schedule.proofs.Cases.{by-bool}
 use Rattle.schedule.proofs.Expired.{not-expired, known-until}
 use Rattle.schedule.proofs.Gaps.{parts}
 use Rattle.schedule.proofs.Order.{both-ways}
-use Rattle.text.specs.Bytes.{endByte}
-use Rattle.compare.specs.Compare.{hasLeap, leapMark, mark, lineAt, linesFrom, differences, expiries, relationBy, relation, comparison, compared}
+use Rattle.compare.specs.Compare.{hasLeap, leapMark, mark, lineAt, linesFrom, differences, expiries, relation}
 use Rattle.compare.proofs.Marks.{leap-marked}
 use Rattle.compare.proofs.Told.{marks-kept, by-marks}
 use Rattle.compare.proofs.Meaning.{says-contradict, says-same, known-mark, not-unknown, known, apart, stands}

@@ -1,6 +1,6 @@
 -- A comparison of two well-formed lists has at most 4,629 bytes: a line has at most 9, that of a list's first leap at most 8.
 -- Assumes nothing.
-use mathlib.Core.Path.{_≡_, refl, sym, ap, _∙_}
+use mathlib.Core.Path.{_≡_, refl, ap}
 use mathlib.Core.Bool.{Bool, true, false, not, cond, _&&_, _||_}
 use mathlib.Core.List.{List, [], _∷_, _++_}
 use Prim.Native.Nat.{ℕ, zero, suc, _+_, _-_, _*_, _≤_, _<_}
@@ -8,8 +8,8 @@ use native.Mathlib.Nat.{zero-add}
 use native.Mathlib.Omega.{arith}
 use lib.Dec.{eqb, ltb}
 use lib.ListN.{length, length-append, length-take}
-use borrow.Author.Tests.{eqb-true, eqb-false, eq-eqb, ne-eqb, ltb-true, ltb-false, lt-ltb}
-use Rattle.format.specs.Ascii.{ascii, zeroByte}
+use borrow.Author.Tests.{eqb-true, ne-eqb, ltb-true, lt-ltb}
+use Rattle.format.specs.Ascii.{zeroByte}
 use Rattle.format.specs.Decimal.{decimal}
 use Rattle.format.proofs.Digits.{decimal-short}
 use Rattle.format.specs.Lines.{newline, spaceByte, between}

@@ -1,14 +1,12 @@
 -- 7/14 worked by hand, as one table under one claim: what comparing two texts answers and writes, and which of them is the longer.
 -- Assumes nothing.
 use mathlib.Core.Path.{_≡_, refl}
-use mathlib.Core.List.{List, [], _∷_, _++_}
+use mathlib.Core.List.{List, [], _∷_}
 use Prim.Native.Nat.{ℕ}
 use Prim.Native.String.{String}
-use lib.ListN.{length}
 use Rattle.format.specs.Ascii.{ascii}
 use Rattle.format.specs.Decimal.{decimal, digitsIn}
 use Rattle.format.specs.Lines.{between}
-use Rattle.schedule.specs.declared.Writing.{Writing}
 use Rattle.schedule.specs.Schedule.{isExpired}
 use Rattle.schedule.specs.Answers.{byReading, fitting, fitted}
 use Rattle.schedule.specs.Extends.{below, sameLeaps}

@@ -26,7 +26,7 @@ tooManyLeaps = 5
 abbrev pub afterEnd : ℕ
 afterEnd = 6
 
--- 7: the output is shorter than the list
+-- 7: the output is shorter than the list, or than the comparison of two
 abbrev pub outputShort : ℕ
 outputShort = 7
 

@@ -18,7 +18,7 @@ pub const TOO_MANY_LEAPS: u8 = 5;
 // Something after the end.
 pub const AFTER_END: u8 = 6;
 
-// The output is shorter than the list.
+// The output is shorter than the list, or than the comparison of two.
 pub const OUTPUT_SHORT: u8 = 7;
 
 // Before 1972.

@@ -3,7 +3,6 @@ use borrow.Author.Needs.{needs}
 use borrow.Author.Tests.{not-true, not-false}
 use native.Mathlib.Omega.{arith}
 use Rattle.format.proofs.Putting.{few}
-use mathlib.Core.Path.{sym, _∙_}
 use Rattle.format.specs.Hex.{unhex}
 use Rattle.nybbles.proofs.Sound.{accepted-well-formed}
 use Rattle.command.specs.Answer.{textAnswer}

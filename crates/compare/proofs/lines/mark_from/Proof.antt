@@ -1,8 +1,8 @@
 -- `compare::lines::mark_from` meets its contract. Assumes nothing.
 use borrow.Author.Needs.{needs}
 use native.Mathlib.Omega.{arith}
-use mathlib.Core.Path.{_≡_, sym, _∙_}
-use lib.ListN.{length, length-map}
+use mathlib.Core.Path.{sym, _∙_}
+use lib.ListN.{length-map}
 use Rattle.compare.proofs.Places.{in-places, mark-here, mark-none}
 use Rattle.compare.proofs.lines.mark_from.Statement.{statement}
 use Rattle.compare.proofs.lines.mark_from.Tie as tie

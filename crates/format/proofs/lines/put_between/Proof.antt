@@ -1,7 +1,6 @@
 -- `format::lines::put_between` meets its contract. Assumes nothing.
 use borrow.Author.Needs.{needs}
 use native.Mathlib.Omega.{arith}
-use mathlib.Core.Path.{refl}
 use Rattle.format.proofs.Putting.{up-to, few, a-byte}
 use Rattle.format.specs.Lines.{between}
 use Rattle.format.proofs.lines.put_between.Statement.{statement}
