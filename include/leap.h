@@ -137,26 +137,31 @@ uint8_t leap_write_nybbles(const leap_schedule *s,
  * the `room` bytes at out, and their length to *written; bytes beyond that stay.
  * LEAP_COMPARISON_ROOM is room for any two lists. Refuses, in this order, with
  * 1, 2, 3, 4, 5 or 6 (the first list does not read), the same (the second does
- * not) or 7 (room too small), and gives no place. */
+ * not) or 7 (room too small). It says neither which list does not read nor where:
+ * leap_read_text does. */
 uint8_t leap_compare_text(const uint8_t *first, size_t first_length,
                           const uint8_t *second, size_t second_length,
                           uint8_t *out, size_t room, uint64_t *written);
 
 /* Of two text lists that don't contradict, hands back the caller's own bytes of
- * the longer one: *part is {second, second_length} if only the second extends the
- * first, else {first, first_length}, so also if they are the same. Refuses, in
- * this order, with 1, 2, 3, 4, 5 or 6 (the first list does not read), the same
- * (the second does not) or 16 (they contradict); *part is then {first, 0}.
+ * the longer one: *part is {first, first_length} if the first extends the second,
+ * so also if they are the same, and {second, second_length} if only the second
+ * extends the first. Refuses, in this order, with 1, 2, 3, 4, 5 or 6 (the first
+ * list does not read), the same (the second does not) or 16 (they contradict);
+ * *part is then {first, 0}.
  *
- * *part must hold a valid part before the call too: set it to {first, 0}. */
+ * The call sets *part and does not look at what it held. All the same give it a
+ * part before the call, {first, 0} will do: in the language that the archive is
+ * written in, what is lent always holds a valid part. */
 uint8_t leap_longer_text(const uint8_t *first, size_t first_length,
                          const uint8_t *second, size_t second_length,
                          leap_part *part);
 
-/* Whether one schedule extends another: *yes is 1 if it does, else 0. It answers
- * "may I replace my stored list by this one?": only by one that extends it, since
- * that one keeps every answer given so far. Refuses with 11 (either schedule is
- * not well formed). */
+/* Whether `longer` extends `shorter`: *yes is 1 if it does, else 0. With the list
+ * offered as `longer` and the stored one as `shorter` it answers "may I replace
+ * my stored list by this one?": only by one that extends it, since that one keeps
+ * every answer given so far. Refuses with 11 (either schedule is not well formed,
+ * as the blank one of a terminal that has stored no list yet is not). */
 uint8_t leap_extends(const leap_schedule *longer, const leap_schedule *shorter,
                      uint8_t *yes);
 

@@ -8,7 +8,7 @@ use Prim.Native.Nat.{ℕ, suc, _+_, _-_, _≤_, _<_}
 use native.Mathlib.Decide.{decLt}
 use native.Mathlib.Omega.{arith}
 use lib.Dec.{ltb}
-use lib.IntN.{ℤ, pos, negsuc, subℕ}
+use lib.IntN.{pos, negsuc, subℕ}
 use borrow.Author.Tests.{ltb-true, ltb-false, le-leb}
 use Rattle.refusals.specs.Refusals.{before1972, notKnown, notWellFormed}
 use Rattle.calendar.specs.Calendar.{firstDay, monthStart}
@@ -21,9 +21,10 @@ use Rattle.schedule.specs.Schedule.{leapsOf, gapsFit, wellFormed}
 use Rattle.schedule.specs.Extends.{sameSign, below, Extends}
 use Rattle.schedule.proofs.Gaps.{fits-lt, first, later, before-end, parts}
 use Rattle.schedule.proofs.Expired.{is-expired, not-expired}
+use Rattle.schedule.proofs.Extension.{below-none}
 use Rattle.clock.specs.Days.{firstDtai, count, tally, dtai}
 use Rattle.clock.specs.Known.{expiryDay, lastDay}
-use Rattle.clock.specs.Question.{given, Question, DTAI, Value, ask}
+use Rattle.clock.specs.Question.{given, DTAI, ask}
 use Rattle.clock.specs.Lists.{Agreed, Parted}
 use Rattle.clock.proofs.Leaps.{not-yet, tally-none}
 use Rattle.clock.proofs.Checks.{pass, given-is}
@@ -49,14 +50,6 @@ tally-now sign from l ls e h =
 
 tally-before : (sign : Sign) (from : ℕ) (l : Leap) (ls : List Leap) (e day : ℕ) → gapsFit from (l ∷ ls) e ≡ true → day < monthStart (l .month) → tally sign (l ∷ ls) day ≡ 0
 tally-before sign from l ls e day h i = omega (arith, not-yet sign l day i, tally-none sign (l .month) ls e day (later from l ls e h) (omega arith))
-
--- none of the leaps after a month lies below it
-below-none : (m from : ℕ) (ls : List Leap) (e : ℕ) → gapsFit from ls e ≡ true → m ≤ from → below m ls ≡ []
-unfolding below
-below-none m from [] e h i = refl
-below-none m from (l ∷ ls) e h i =
-    let g = fits-lt from (l .month) (first from l ls e h) in
-    rw (is-expired m (l .month) (omega arith)) (below-none m (l .month) ls e (later from l ls e h) (omega arith))
 
 -- ---- two lists of leaps after one month, compared
 

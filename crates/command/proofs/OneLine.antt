@@ -1,7 +1,7 @@
 -- An answer is one line where it is to be one, and answers to lines are read as lines again. Assumes nothing.
 use mathlib.Core.Path.{_≡_, refl, ap, _∙_}
 use mathlib.Core.Bool.{false}
-use mathlib.Core.List.{List, [], _∷_, _++_, map, append-assoc}
+use mathlib.Core.List.{List, [], _∷_, map, append-assoc}
 use Prim.Native.Nat.{ℕ, zero, suc, _<_}
 use native.Mathlib.Omega.{arith}
 use lib.Dec.{leb}
@@ -12,6 +12,7 @@ use Rattle.format.specs.declared.decimal.Number.{Number}
 use Rattle.format.specs.declared.decimal.Number.the-variants.{Given, Missing}
 use Rattle.format.specs.Hex.{isHex, unhex, hex}
 use Rattle.format.specs.Parts.{parts}
+use Rattle.format.proofs.Unbroken.{hasNo, Unbroken, more, parted, append, either, in-decimal, in-signed, in-hex, first-part}
 use Rattle.schedule.specs.declared.Schedule.{Schedule}
 use Rattle.schedule.specs.declared.Reading.{Reading}
 use Rattle.text.specs.Read.{readText}
@@ -31,7 +32,7 @@ use Rattle.command.specs.Answer.{aboutNumber, aboutOne, aboutTwo, textAn
 use Rattle.command.specs.Lines.{butLast, linesOf, answerLine, answersOf}
 use Rattle.command.proofs.Going.{not-last}
 use Rattle.command.proofs.TwoLists.{in-reading, in-comparison, in-longer}
-use Rattle.command.proofs.Unbroken.{hasNo, Unbroken, more, parted, append, either, in-decimal, in-signed, in-hex, in-text, in-refusal, with-place, in-expected, in-shown}
+use Rattle.command.proofs.Unbroken.{in-text, in-refusal, with-place, in-expected, in-shown}
 
 -- ---- answers about a list
 
@@ -135,11 +136,6 @@ no-place : (bytes : List ℕ) → Unbroken bytes → (i : ℕ) → i < length by
 no-place [] u i h = absurd (omega arith)
 no-place (b ∷ bs) u zero h = eqb-false b newline (parted b bs u .0)
 no-place (b ∷ bs) u (suc i) h = no-place bs (parted b bs u .1) i (omega arith)
-
-first-part : (xs ys : List ℕ) → Unbroken xs → parts newline (xs ++ (newline ∷ ys)) ≡ xs ∷ parts newline ys
-unfolding parts
-first-part [] ys u = refl
-first-part (x ∷ xs) ys u = let p = parted x xs u in simp (p .0, first-part xs ys (p .1))
 
 first-answer : (l : List ℕ) (ls : List (List ℕ)) → linesOf (answersOf (l ∷ ls)) ≡ answerTo false l ∷ linesOf (answersOf ls)
 unfolding linesOf answersOf answerLine

@@ -1,27 +1,25 @@
 -- No byte is LF in what is answered about two lists. Assumes nothing.
 use mathlib.Core.Path.{_≡_, refl}
-use mathlib.Core.Bool.{Bool, true, false, not, _&&_, _||_}
+use mathlib.Core.Bool.{false}
 use mathlib.Core.List.{List, [], _∷_}
-use Prim.Native.Nat.{ℕ, zero, suc, _+_}
+use Prim.Native.Nat.{ℕ}
 use lib.Dec.{eqb}
-use Rattle.format.specs.Lines.{newline, between}
-use Rattle.format.proofs.Cases.{by-bool}
-use Rattle.schedule.specs.declared.Leap.{Leap}
+use Rattle.format.specs.Lines.{between}
+use Rattle.format.proofs.Unbroken.{Unbroken, empty, append, either, in-decimal}
 use Rattle.schedule.specs.declared.Schedule.{Schedule}
 use Rattle.schedule.specs.declared.Reading.{Reading}
-use Rattle.schedule.specs.Schedule.{leapsOf}
 use Rattle.schedule.specs.Answers.{byReading}
-use Rattle.schedule.specs.Extends.{extends}
 use Rattle.text.specs.Read.{readText}
 use Rattle.text.proofs.Spelling.{one-spelling}
 use Rattle.compare.specs.declared.longer.Chosen.{Chosen}
 use Rattle.compare.specs.declared.longer.Chosen.the-variants.{First, Second, Refused}
-use Rattle.compare.specs.Compare.{hasLeap, leapMark, isUnknown, mark, lineAt, linesFrom, expiries, relationBy, comparison, comparisonOf}
+use Rattle.compare.specs.Compare.{Line, linesOf, joined, comparisonOf}
 use Rattle.compare.specs.Longer.{chosen}
 use Rattle.compare.proofs.TwoTexts.{Taken}
+use Rattle.compare.proofs.Shown.{AllUnbroken, lines-unbroken}
 use Rattle.answers.specs.Lists.{longerBy}
 use Rattle.answers.proofs.Chosen.{first-read, second-read}
-use Rattle.command.proofs.Unbroken.{hasNo, Unbroken, empty, more, append, either, sign, in-decimal, in-text, in-refusal, in-between}
+use Rattle.command.proofs.Unbroken.{in-text, in-refusal, in-between}
 
 -- an answer about a list that was read, or its refusal
 pub in-reading : (r : Reading) (refuse : ℕ → ℕ → List ℕ) (f : Schedule → List ℕ) → ((n place : ℕ) → Unbroken (refuse n place)) → ((s : Schedule) → Unbroken (f s))
@@ -31,43 +29,16 @@ in-reading r refuse f n u = either (eqb (r .number) 0) (u (r .schedule)) (n (r .
 
 -- ---- where they part
 
-leap-mark : (ls : List Leap) (m : ℕ) → eqb (leapMark ls m) newline ≡ false
-unfolding leapMark
-leap-mark [] m = refl
-leap-mark (l ∷ ls) m = by-bool (eqb (l .month) m) (λ t. rw t (sign (l .sign))) (λ f. rw f (leap-mark ls m))
-
-in-mark : (s : Schedule) (m : ℕ) → eqb (mark s m) newline ≡ false
-in-mark s m = by-bool (isUnknown s m) (λ t. rw t refl) (λ f. rw f (leap-mark (leapsOf s) m))
-
-in-line : (a b : Schedule) (m : ℕ) → Unbroken (lineAt (between false) a b m)
-unfolding lineAt
-in-line a b m =
-    either ((hasLeap (leapsOf a) m || hasLeap (leapsOf b) m) && not (eqb (mark a m) (mark b m)))
-    (append _ (in-decimal m) (more refl (more (in-mark a m) (more refl (more (in-mark b m) in-between))))) empty
-
-in-lines : (a b : Schedule) (m n : ℕ) → Unbroken (linesFrom (between false) a b m n)
-unfolding linesFrom
-in-lines a b m zero = empty
-in-lines a b m (suc n) = append _ (in-line a b m) (in-lines a b (m + 1) n)
-
-in-expiries : (a b : Schedule) → Unbroken (expiries (between false) a b)
-unfolding expiries
-in-expiries a b =
-    either (eqb (a .expiry) (b .expiry)) empty (more refl (more refl (append _ (in-decimal (a .expiry)) (more refl (append _ (in-decimal (b .expiry)) in-between)))))
-
-in-relation : (x y : Bool) → Unbroken (relationBy x y)
-unfolding hasNo relationBy
-in-relation true true = record { none = refl }
-in-relation true false = record { none = refl }
-in-relation false true = record { none = refl }
-in-relation false false = record { none = refl }
-
-compared : (a b : Schedule) → Unbroken (comparison false a b)
-unfolding comparison
-compared a b = append _ (in-lines a b 0 2401) (append _ (in-expiries a b) (in-relation (extends a b) (extends b a)))
+in-joined : (ls : List Line) → AllUnbroken ls → Unbroken (joined (between false) ls)
+unfolding joined
+in-joined [] u = empty
+in-joined (l ∷ []) u = u .0
+in-joined (l ∷ k ∷ ks) u = append _ (u .0) (append _ in-between (in-joined (k ∷ ks) (u .1)))
 
 pub in-comparison : (x y : List ℕ) → Unbroken (comparisonOf false x y)
-in-comparison x y = in-reading (readText x) _ _ (λ n place. in-decimal n) (λ a. in-reading (readText y) _ _ (λ n place. in-decimal n) (compared a))
+in-comparison x y =
+    in-reading (readText x) _ _ (λ n place. in-decimal n)
+    (λ a. in-reading (readText y) _ _ (λ n place. in-decimal n) (λ b. in-joined (linesOf a b) (lines-unbroken a b)))
 
 -- ---- the longer
 

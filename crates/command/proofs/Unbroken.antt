@@ -1,101 +1,27 @@
--- No byte is LF: in numbers, in dates, in lists and in words, of which answers are made. Assumes nothing.
-use mathlib.Core.Path.{_≡_, refl}
-use mathlib.Core.Bool.{Bool, true, false, cond, not, _&&_, and-eq-true-iff}
-use mathlib.Core.List.{List, [], _∷_, _++_}
-use Prim.Native.Nat.{ℕ, zero, suc, _+_, _/_, _%_}
-use native.Mathlib.Omega.{arith}
-use lib.Dec.{ltb, eqb}
-use lib.IntN.{ℤ, pos, negsuc}
-use borrow.Author.Tests.{ne-eqb, not-true}
-use Rattle.format.specs.Ascii.{ascii, zeroByte}
-use Rattle.format.specs.Decimal.{digitsIn, decimal, signed, withSign}
-use Rattle.format.specs.Hex.{hexDigit, hex}
-use Rattle.format.proofs.Cases.{by-bool}
-use Rattle.schedule.specs.declared.Sign.{Sign}
-use Rattle.schedule.specs.declared.Sign.the-variants.{Positive, Negative}
+-- No byte is LF in the lists, the refusals, the words and the dates of which answers are made. Assumes nothing.
+use mathlib.Core.Path.{refl}
+use mathlib.Core.Bool.{false}
+use mathlib.Core.List.{List, [], _∷_}
+use Prim.Native.Nat.{ℕ}
+use Rattle.format.specs.Ascii.{ascii}
+use Rattle.format.proofs.Unbroken.{hasNo, Unbroken, empty, more, append, either, digit, in-decimal, with-sign}
 use Rattle.schedule.specs.declared.Leap.{Leap}
 use Rattle.schedule.specs.declared.Schedule.{Schedule}
 use Rattle.schedule.specs.Schedule.{leapsOf}
-use Rattle.text.specs.Bytes.{signByte}
 use Rattle.text.specs.Write.{digits, textFrom, textOf}
+use Rattle.compare.proofs.Shown.{sign}
 use Rattle.line.specs.declared.words.Word.{Word}
 use Rattle.line.specs.declared.words.Word.the-variants.{Show, Nybbles, Text, Dtai, Tai, Utc, Uts, Unsmooth, Compare, Longer, Other}
-use Rattle.format.specs.Lines.{newline, between}
+use Rattle.format.specs.Lines.{between}
 use Rattle.line.specs.Refusal.{refusal, refusalAt}
 use Rattle.line.specs.Words.{usage, expected}
 use Rattle.show.specs.Show.{date, stretch, stretches, shown}
-
--- no byte is this one
-unfoldable pub hasNo : ℕ → List ℕ → Bool
-hasNo mark [] = true
-hasNo mark (b ∷ bs) = not (eqb b mark) && hasNo mark bs
-
--- no byte is LF
-pub record Unbroken (bytes : List ℕ) : Type 0 where
-  pub none : hasNo newline bytes ≡ true
-
-pub empty : Unbroken []
-unfolding hasNo
-empty = record { none = refl }
-
-pub more : {b : ℕ} {bs : List ℕ} → eqb b newline ≡ false → Unbroken bs → Unbroken (b ∷ bs)
-unfolding hasNo
-more h u = record { none = simp (h, u .none) }
-
--- the first byte, and the others
-pub parted : (b : ℕ) (bs : List ℕ) → Unbroken (b ∷ bs) → (eqb b newline ≡ false) × Unbroken bs
-unfolding hasNo
-parted b bs u =
-    let a = and-eq-true-iff (not (eqb b newline)) (hasNo newline bs) .0 (u .none) in
-    (not-true (eqb b newline) (a .0), record { none = a .1 })
-
-pub append : (xs : List ℕ) {ys : List ℕ} → Unbroken xs → Unbroken ys → Unbroken (xs ++ ys)
-append [] u v = v
-append (x ∷ xs) u v = let p = parted x xs u in more (p .0) (append xs (p .1) v)
-
-pub either : (b : Bool) {xs ys : List ℕ} → Unbroken xs → Unbroken ys → Unbroken (cond b xs ys)
-either true u v = u
-either false u v = v
-
--- ---- numbers
-
-digit : (d : ℕ) {bs : List ℕ} → Unbroken bs → Unbroken ((zeroByte + d) ∷ bs)
-digit d = more (ne-eqb (zeroByte + d) newline (omega arith))
-
-digits-in : (bound n : ℕ) → Unbroken (digitsIn bound n)
-unfolding digitsIn
-digits-in zero n = empty
-digits-in (suc bound) n = let tenth = digits-in bound (n / 10) in search (either, append, digit, empty)
-
-pub in-decimal : (n : ℕ) → Unbroken (decimal n)
-unfolding decimal
-in-decimal n = digits-in (suc n) n
-
-pub in-signed : (z : ℤ) → Unbroken (signed z)
-in-signed (pos n) = in-decimal n
-in-signed (negsuc n) = more refl (in-decimal (suc n))
-
-with-sign : (z : ℤ) → Unbroken (withSign z)
-with-sign (pos n) = more refl (in-decimal n)
-with-sign (negsuc n) = more refl (in-decimal (suc n))
-
-hex-digit : (d : ℕ) → eqb (hexDigit d) newline ≡ false
-hex-digit d = ne-eqb (hexDigit d) newline (by-bool (ltb d 10) (λ e. simp e (omega arith)) (λ e. simp e (omega arith)))
-
-pub in-hex : (bytes : List ℕ) → Unbroken (hex bytes)
-unfolding hex
-in-hex [] = empty
-in-hex (b ∷ bs) = more (hex-digit (b / 16)) (more (hex-digit (b % 16)) (in-hex bs))
 
 -- ---- text lists
 
 gap : (g : ℕ) → Unbroken (digits g)
 unfolding digits
 gap g = search (either, digit, empty) depth 6
-
-pub sign : (s : Sign) → eqb (signByte s) newline ≡ false
-sign Positive = refl
-sign Negative = refl
 
 text-from : (from : ℕ) (ls : List Leap) (expiry : ℕ) → Unbroken (textFrom from ls expiry)
 unfolding textFrom

@@ -18,44 +18,44 @@ use Rattle.schedule.specs.declared.Schedule.{Schedule}
 use Rattle.schedule.specs.Schedule.{leapsOf, gapsFit, wellFormed}
 use Rattle.schedule.proofs.Cases.{by-bool}
 use Rattle.schedule.proofs.Gaps.{later, before-end, parts}
-use Rattle.compare.specs.Compare.{hasLeap, leapMark, lineOf, lineAt, linesFrom, differences}
-use Rattle.compare.specs.Inner.{pastMonths, firstMonth, leapsFrom, markFrom, markLine}
+use Rattle.compare.specs.Compare.{hasLeap, leapMark}
+use Rattle.compare.specs.Inner.{pastMonths, firstMonth, leapsFrom, markFrom, lineBytes, markLine, monthBytes, monthsBytes, differences}
 use Rattle.compare.proofs.Marks.{leap-marked}
 use Rattle.compare.proofs.Ahead.{Ahead, begin, later-month, no-leap, has-leap, mark-is, past, counts}
 
 -- ---- months without a line
 
-no-line : (end : List ℕ) (a b : Schedule) (m : ℕ) → leapMark (leapsOf a) m ≡ zeroByte → leapMark (leapsOf b) m ≡ zeroByte → lineAt end a b m ≡ []
-unfolding lineAt
+no-line : (end : List ℕ) (a b : Schedule) (m : ℕ) → leapMark (leapsOf a) m ≡ zeroByte → leapMark (leapsOf b) m ≡ zeroByte → monthBytes end a b m ≡ []
+unfolding monthBytes
 no-line end a b m p q = rw (leap-marked (leapsOf a) m, leap-marked (leapsOf b) m) (simp (p, q))
 
-skip : (end : List ℕ) (a b : Schedule) (d m n : ℕ) → ((k : ℕ) → m ≤ k → k < m + d → lineAt end a b k ≡ []) → linesFrom end a b m (d + n) ≡ linesFrom end a b (m + d) n
-unfolding linesFrom
+skip : (end : List ℕ) (a b : Schedule) (d m n : ℕ) → ((k : ℕ) → m ≤ k → k < m + d → monthBytes end a b k ≡ []) → monthsBytes end a b m (d + n) ≡ monthsBytes end a b (m + d) n
+unfolding monthsBytes
 skip end a b zero m n f = rw (zero-add, add-zero)
 skip end a b (suc d) m n f =
     let e : m + suc d ≡ m + 1 + d = omega arith in
     rw (suc-add, f m (omega arith) (omega arith), e) (skip end a b d (m + 1) n (λ k h g. f k (omega arith) (omega arith)))
 
-to-month : (end : List ℕ) (a b : Schedule) (m n : ℕ) → m ≤ n → n ≤ pastMonths → ((k : ℕ) → m ≤ k → k < n → lineAt end a b k ≡ [])
-    → linesFrom end a b m (pastMonths - m) ≡ linesFrom end a b n (pastMonths - n)
+to-month : (end : List ℕ) (a b : Schedule) (m n : ℕ) → m ≤ n → n ≤ pastMonths → ((k : ℕ) → m ≤ k → k < n → monthBytes end a b k ≡ [])
+    → monthsBytes end a b m (pastMonths - m) ≡ monthsBytes end a b n (pastMonths - n)
 to-month end a b m n h g f =
     let e : pastMonths - m ≡ (n - m) + (pastMonths - n) = omega arith in
     let z : m + (n - m) ≡ n = omega arith in
-    ap (linesFrom end a b m) e ∙ (skip end a b (n - m) m (pastMonths - n) (λ k l u. f k l (omega arith)) ∙ ap (λ (k : ℕ). linesFrom end a b k (pastMonths - n)) z)
+    ap (monthsBytes end a b m) e ∙ (skip end a b (n - m) m (pastMonths - n) (λ k l u. f k l (omega arith)) ∙ ap (λ (k : ℕ). monthsBytes end a b k (pastMonths - n)) z)
 
-one-line : (end : List ℕ) (a b : Schedule) (m n : ℕ) → linesFrom end a b m (suc n) ≡ lineAt end a b m ++ linesFrom end a b (m + 1) n
-unfolding linesFrom
+one-line : (end : List ℕ) (a b : Schedule) (m n : ℕ) → monthsBytes end a b m (suc n) ≡ monthBytes end a b m ++ monthsBytes end a b (m + 1) n
+unfolding monthsBytes
 one-line end a b m n = refl
 
-no-lines : (end : List ℕ) (a b : Schedule) (m : ℕ) → linesFrom end a b m 0 ≡ []
-unfolding linesFrom
+no-lines : (end : List ℕ) (a b : Schedule) (m : ℕ) → monthsBytes end a b m 0 ≡ []
+unfolding monthsBytes
 no-lines end a b m = refl
 
 first-line : (end : List ℕ) (a b : Schedule) (m : ℕ) → m < pastMonths
-    → linesFrom end a b m (pastMonths - m) ≡ lineAt end a b m ++ linesFrom end a b (m + 1) (pastMonths - (m + 1))
+    → monthsBytes end a b m (pastMonths - m) ≡ monthBytes end a b m ++ monthsBytes end a b (m + 1) (pastMonths - (m + 1))
 first-line end a b m h =
     let e : pastMonths - m ≡ suc (pastMonths - (m + 1)) = omega arith in
-    ap (linesFrom end a b m) e ∙ one-line end a b m (pastMonths - (m + 1))
+    ap (monthsBytes end a b m) e ∙ one-line end a b m (pastMonths - (m + 1))
 
 -- ---- the line of a month
 
@@ -64,7 +64,7 @@ or-true true = refl
 or-true false = refl
 
 line-shape : (end : List ℕ) (m : ℕ) {p : Bool} {x y x′ y′ : ℕ} → p ≡ true → x ≡ x′ → y ≡ y′
-    → cond (p && not (eqb x y)) (lineOf end m x y) [] ≡ markLine end m x′ y′
+    → cond (p && not (eqb x y)) (lineBytes end m x y) [] ≡ markLine end m x′ y′
 unfolding markLine
 line-shape end m {x′ = x′} {y′ = y′} e f g = rw (e, f, g) (by-bool (eqb x′ y′) (λ t. simp t) (λ n. simp n))
 
@@ -81,14 +81,14 @@ pub record Going (lines : Bool) (a b : Schedule) (start out : List ℕ) (at next
   pub a-ahead : Ahead a i m
   pub b-ahead : Ahead b j m
   pub first : m ≡ min (firstMonth (leapsFrom a i)) (firstMonth (leapsFrom b j))
-  pub left : LeftUpTo ((i + j) * 10) start out at next (linesFrom (between lines) a b 0 pastMonths) (linesFrom (between lines) a b m (pastMonths - m))
+  pub left : LeftUpTo ((i + j) * 10) start out at next (monthsBytes (between lines) a b 0 pastMonths) (monthsBytes (between lines) a b m (pastMonths - m))
 
 most : {s : Schedule} {i m : ℕ} → Ahead s i m → firstMonth (leapsFrom s i) ≤ pastMonths
 most {s} {i} a = first-most (leapsFrom s i) (a .last) (s .expiry) (a .gaps) (parts s (a .well) .end)
 
 -- from a month on to that of the next leap there is no line
 between-leaps : (end : List ℕ) {a b : Schedule} {i j m : ℕ} → Ahead a i m → Ahead b j m → (n : ℕ) → n ≡ min (firstMonth (leapsFrom a i)) (firstMonth (leapsFrom b j))
-    → linesFrom end a b m (pastMonths - m) ≡ linesFrom end a b n (pastMonths - n)
+    → monthsBytes end a b m (pastMonths - m) ≡ monthsBytes end a b n (pastMonths - n)
 between-leaps end {a} {b} {i} {j} {m} x y n e =
     to-month end a b m n (omega (arith, x .up-to, y .up-to)) (omega (arith, most x))
     (λ k h g. no-line end a b k (no-leap x k h (omega arith)) (no-leap y k h (omega arith)))
@@ -110,7 +110,7 @@ module _ {lines : Bool} {a b : Schedule} {start out : List ℕ} {at next i j m :
   pub ended : pastMonths ≤ m → PutsUpTo 5120 start out at next (differences (between lines) a b)
   ended h =
       let z : pastMonths - m ≡ 0 = omega arith in
-      all (g .left) (ap (linesFrom (between lines) a b m) z ∙ no-lines (between lines) a b m)
+      all (g .left) (ap (monthsBytes (between lines) a b m) z ∙ no-lines (between lines) a b m)
       (omega (arith, g .a-ahead .inside, g .b-ahead .inside, parts a (g .a-ahead .well) .room, parts b (g .b-ahead .well) .room))
 
   module _ (h : m < pastMonths) where
@@ -123,8 +123,8 @@ module _ {lines : Bool} {a b : Schedule} {start out : List ℕ} {at next i j m :
           | no l ↦ rw (has-leap (g .b-ahead) (omega (arith, g .first)) h) (or-true (not (eqb (leapMark (leapsOf a) m) zeroByte)))
         ])
 
-    line-is : lineAt (between lines) a b m ≡ markLine (between lines) m (markFrom a i m) (markFrom b j m)
-    unfolding lineAt
+    line-is : monthBytes (between lines) a b m ≡ markLine (between lines) m (markFrom a i m) (markFrom b j m)
+    unfolding monthBytes
     line-is = line-shape (between lines) m some-leap (mark-is (g .a-ahead)) (mark-is (g .b-ahead))
 
     module _ {i′ j′ m′ : ℕ} (p : i′ ≡ cond (eqb (firstMonth (leapsFrom a i)) m) (i + 1) i) (q : j′ ≡ cond (eqb (firstMonth (leapsFrom b j)) m) (j + 1) j)
@@ -159,7 +159,7 @@ module _ {lines : Bool} {a b : Schedule} {start out : List ℕ} {at next i j m :
             first = e;
             left =
                 more (g .left) put
-                (first-line (between lines) a b m h ∙ (ap (λ (l : List ℕ). l ++ linesFrom (between lines) a b (m + 1) (pastMonths - (m + 1))) line-is
+                (first-line (between lines) a b m h ∙ (ap (λ (l : List ℕ). l ++ monthsBytes (between lines) a b (m + 1) (pastMonths - (m + 1))) line-is
                 ∙ ap (λ (l : List ℕ). markLine (between lines) m (markFrom a i m) (markFrom b j m) ++ l) (between-leaps (between lines) x y m′ e)))
                 (omega (arith, one-more));
           }

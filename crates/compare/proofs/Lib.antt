@@ -2,12 +2,14 @@
 pub mod TwoTexts
 pub mod Marks
 pub mod Told
+pub mod Bytes
 pub mod Places
 pub mod Ahead
 pub mod Going
 pub mod Found
 pub mod Held
 pub mod Meaning
+pub mod Shown
 pub mod Parting
 pub mod Worked
 pub mod Handed

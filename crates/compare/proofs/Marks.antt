@@ -3,7 +3,7 @@
 use mathlib.Core.Path.{_≡_, refl, sym, ap, _∙_}
 use mathlib.Core.Bool.{true, false, not, cond}
 use mathlib.Core.List.{List, [], _∷_}
-use mathlib.Core.Logic.{_↔_}
+use mathlib.Core.Logic.{_↔_, _≢_}
 use Prim.Native.Nat.{ℕ, _≤_}
 use lib.Dec.{eqb}
 use native.Mathlib.Omega.{arith}
@@ -49,14 +49,23 @@ unfolding leapMark
 never-unknown [] m = refl
 never-unknown (l ∷ ls) m = by-bool (eqb (l .month) m) (λ t. rw (t, sign-known (l .sign))) (λ f. rw f (never-unknown ls m))
 
--- the mark is `?` exactly at and after the list's expiry
-pub unknown-exactly : (s : Schedule) (m : ℕ) → (mark s m ≡ 63) ↔ (s .expiry ≤ m)
-unknown-exactly s m = (
-  λ e.
-      by-bool (isUnknown s m) (λ t. expired-from (s .expiry) m t)
-      (λ f. absurd (eqb-false (leapMark (leapsOf s) m) endByte (never-unknown (leapsOf s) m) (sym (unknown-not f) ∙ e))),
-  λ h. ap (λ b. cond b endByte (leapMark (leapsOf s) m)) (is-expired (s .expiry) m h),
-)
-  where
-    unknown-not : isUnknown s m ≡ false → mark s m ≡ leapMark (leapsOf s) m
-    unknown-not f = ap (λ b. cond b endByte (leapMark (leapsOf s) m)) f
+module _ (s : Schedule) (m : ℕ) where
+  -- a mark that is known is that of the leaps
+  pub known-mark : isUnknown s m ≡ false → mark s m ≡ leapMark (leapsOf s) m
+  known-mark f = ap (λ b. cond b endByte (leapMark (leapsOf s) m)) f
+
+  pub known : isUnknown s m ≡ false → mark s m ≢ 63
+  known f e = eqb-false (leapMark (leapsOf s) m) endByte (never-unknown (leapsOf s) m) (sym (known-mark f) ∙ e)
+
+  unknown : isUnknown s m ≡ true → mark s m ≡ 63
+  unknown t = ap (λ b. cond b endByte (leapMark (leapsOf s) m)) t
+
+  pub not-unknown : mark s m ≢ 63 → isUnknown s m ≡ false
+  not-unknown n = by-bool (isUnknown s m) (λ t. absurd (n (unknown t))) (λ f. f)
+
+  -- the mark is `?` exactly at and after the list's expiry
+  pub unknown-exactly : (mark s m ≡ 63) ↔ (s .expiry ≤ m)
+  unknown-exactly = (
+    λ e. by-bool (isUnknown s m) (λ t. expired-from (s .expiry) m t) (λ f. absurd (known f e)),
+    λ h. unknown (is-expired (s .expiry) m h),
+  )

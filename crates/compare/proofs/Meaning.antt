@@ -1,31 +1,29 @@
--- What the lines of a comparison mean: which months have one, what the last one says, and when it stands alone.
+-- What the last line of a comparison says, and which months have a line.
 -- Assumes nothing.
 use mathlib.Core.Path.{_≡_, refl, sym, ap, _∙_}
-use mathlib.Core.Bool.{Bool, true, false, not, _&&_, _||_, true≢false, and-eq-true-iff}
+use mathlib.Core.Bool.{Bool, true, false, not, _||_, true≢false, and-eq-true-iff}
 use mathlib.Core.List.{List, [], _∷_}
 use mathlib.Core.Logic.{_↔_, _≢_, _⊎_, inl, inr, ⊎-elim}
 use Prim.Native.Nat.{ℕ, _<_}
 use native.Mathlib.Omega.{arith}
 use lib.Dec.{eqb}
-use lib.ListN.{length, getD, length-append}
-use borrow.Author.Tests.{eqb-true, eqb-false, eq-eqb, ne-eqb}
+use lib.ListN.{length, getD}
+use borrow.Author.Tests.{eqb-true, eq-eqb, ne-eqb}
 use Rattle.format.specs.Ascii.{ascii, zeroByte}
-use Rattle.format.specs.Decimal.{decimal}
-use Rattle.format.specs.Lines.{spaceByte}
 use Rattle.schedule.specs.declared.Sign.{Sign}
 use Rattle.schedule.specs.declared.Sign.the-variants.{Positive, Negative}
 use Rattle.schedule.specs.declared.Leap.{Leap}
 use Rattle.schedule.specs.declared.Schedule.{Schedule}
-use Rattle.schedule.specs.Schedule.{maxLeaps, leapsOf, isExpired, gapsFit, wellFormed}
+use Rattle.schedule.specs.Schedule.{maxLeaps, leapsOf, gapsFit, wellFormed}
 use Rattle.schedule.specs.Extends.{Extends, extends}
 use Rattle.schedule.proofs.Cases.{by-bool}
 use Rattle.schedule.proofs.Expired.{not-expired}
-use Rattle.schedule.proofs.Extension.{extends-itself, means, tests}
+use Rattle.schedule.proofs.Extension.{extends-itself, means, tests, fails, failed}
 use Rattle.schedule.proofs.Gaps.{later, before-end, parts}
 use Rattle.schedule.proofs.Order.{both-ways}
-use Rattle.text.specs.Bytes.{signByte, endByte}
-use Rattle.compare.specs.Compare.{hasLeap, leapMark, mark, lineOf, lineAt, relationBy, relation}
-use Rattle.compare.proofs.Marks.{leap-marked, never-unknown}
+use Rattle.text.specs.Bytes.{signByte}
+use Rattle.compare.specs.Compare.{hasLeap, leapMark, mark, hasLine, relationBy, relation, told}
+use Rattle.compare.proofs.Marks.{leap-marked, known-mark, not-unknown}
 
 -- ---- the last line
 
@@ -49,15 +47,9 @@ relation-told false false true false e = absurd (omega (arith, ap length e))
 relation-told false false false true e = absurd (omega (arith, ap length e))
 relation-told false false false false e = (refl, refl)
 
-fails : {a b : Schedule} → ¬ Extends a b → extends a b ≡ false
-fails {a} {b} n = by-bool (extends a b) (λ t. absurd (n (means t))) (λ f. f)
-
-failed : {a b : Schedule} → extends a b ≡ false → ¬ Extends a b
-failed f x = true≢false (sym (tests x) ∙ f)
-
 module _ (a b : Schedule) where
   -- `extends 1` says that the first extends the second, and not the second the first
-  pub says-extends-1 : (relation a b ≡ ascii "extends 1") ↔ (Extends a b × ¬ Extends b a)
+  pub says-extends-1 : (told (relation a b) ≡ ascii "extends 1") ↔ (Extends a b × ¬ Extends b a)
   unfolding relationBy
   says-extends-1 = (
     λ e. let p = relation-told (extends a b) (extends b a) true false e in (means (p .0), failed (p .1)),
@@ -65,7 +57,7 @@ module _ (a b : Schedule) where
   )
 
   -- `extends 2` that the second extends the first, and not the first the second
-  pub says-extends-2 : (relation a b ≡ ascii "extends 2") ↔ (¬ Extends a b × Extends b a)
+  pub says-extends-2 : (told (relation a b) ≡ ascii "extends 2") ↔ (¬ Extends a b × Extends b a)
   unfolding relationBy
   says-extends-2 = (
     λ e. let p = relation-told (extends a b) (extends b a) false true e in (failed (p .0), means (p .1)),
@@ -73,7 +65,7 @@ module _ (a b : Schedule) where
   )
 
   -- `contradict` that neither extends the other
-  pub says-contradict : (relation a b ≡ ascii "contradict") ↔ (¬ Extends a b × ¬ Extends b a)
+  pub says-contradict : (told (relation a b) ≡ ascii "contradict") ↔ (¬ Extends a b × ¬ Extends b a)
   unfolding relationBy
   says-contradict = (
     λ e. let p = relation-told (extends a b) (extends b a) false false e in (failed (p .0), failed (p .1)),
@@ -81,7 +73,7 @@ module _ (a b : Schedule) where
   )
 
   -- `same` that each extends the other, and so (with 256 places, as every schedule of the code has) that the lists are equal
-  pub says-same : length (a .leaps) ≡ maxLeaps → length (b .leaps) ≡ maxLeaps → wellFormed a ≡ true → wellFormed b ≡ true → (relation a b ≡ ascii "same") ↔ (a ≡ b)
+  pub says-same : length (a .leaps) ≡ maxLeaps → length (b .leaps) ≡ maxLeaps → wellFormed a ≡ true → wellFormed b ≡ true → (told (relation a b) ≡ ascii "same") ↔ (a ≡ b)
   unfolding relationBy
   says-same full full′ w w′ = (
     λ e. let p = relation-told (extends a b) (extends b a) true true e in both-ways a b full full′ w w′ (means (p .0)) (means (p .1)),
@@ -89,10 +81,6 @@ module _ (a b : Schedule) where
   )
 
 -- ---- which months have a line
-
--- a line is not empty
-line-there : (end : List ℕ) (m x y : ℕ) → lineOf end m x y ≢ []
-line-there end m x y e = omega (arith, ap length e, length-append (decimal m) (spaceByte ∷ x ∷ spaceByte ∷ y ∷ end))
 
 -- `+` and `-`
 abbrev pub IsLeap : ℕ → Type 0
@@ -106,7 +94,7 @@ leap-some : {x : ℕ} → IsLeap x → eqb x zeroByte ≡ false
 leap-some (inl e) = rw e refl
 leap-some (inr e) = rw e refl
 
-leap-known : {x : ℕ} → IsLeap x → x ≢ endByte
+leap-known : {x : ℕ} → IsLeap x → x ≢ 63
 leap-known (inl e) z = omega arith
 leap-known (inr e) z = omega arith
 
@@ -126,73 +114,48 @@ early (l ∷ ls) from e m g h =
     by-bool (eqb (l .month) m) (λ t. omega (arith, eqb-true (l .month) m t, before-end ls (l .month) e more)) (λ f. early ls (l .month) e m more (rw f at h))
 
 module _ (s : Schedule) (m : ℕ) where
-  -- before the expiry the mark is that of the leaps, and after it `?`
-  pub known-mark : isExpired (s .expiry) m ≡ false → mark s m ≡ leapMark (leapsOf s) m
-  known-mark f = rw f
-
-  pub not-unknown : mark s m ≢ endByte → isExpired (s .expiry) m ≡ false
-  not-unknown n = by-bool (isExpired (s .expiry) m) (λ t. absurd (n (rw t))) (λ f. f)
-
-  pub known : isExpired (s .expiry) m ≡ false → mark s m ≢ endByte
-  known f e = eqb-false (leapMark (leapsOf s) m) endByte (never-unknown (leapsOf s) m) (sym (known-mark f) ∙ e)
-
   -- a well-formed list has a leap at a month exactly where its mark is one
   leap-shown : wellFormed s ≡ true → (hasLeap (leapsOf s) m ≡ true) ↔ IsLeap (mark s m)
   leap-shown w = (
-    λ h. rw (known-mark (not-expired (s .expiry) m (early (leapsOf s) 0 (s .expiry) m (parts s w .gaps) h))) (marked-leap (leapsOf s) m h),
+    λ h. rw (known-mark s m (not-expired (s .expiry) m (early (leapsOf s) 0 (s .expiry) m (parts s w .gaps) h))) (marked-leap (leapsOf s) m h),
     λ l.
-        let f = not-unknown (leap-known l) in
-        leap-marked (leapsOf s) m ∙ ap not (ap (λ (x : ℕ). eqb x zeroByte) (sym (known-mark f)) ∙ leap-some l),
+        let f = not-unknown s m (leap-known l) in
+        leap-marked (leapsOf s) m ∙ ap not (ap (λ (x : ℕ). eqb x zeroByte) (sym (known-mark s m f)) ∙ leap-some l),
   )
 
 or-true-iff : (x y : Bool) → ((x || y) ≡ true) ↔ ((x ≡ true) ⊎ (y ≡ true))
 or-true-iff true y = (λ e. inl refl, λ e. refl)
 or-true-iff false y = (λ e. inr e, λ e. ⊎-elim (λ z. absurd (true≢false (sym z))) (λ z. z) e)
 
-module _ (end : List ℕ) (a b : Schedule) (m : ℕ) where
-  -- the test of a line
-  differ : Bool
-  differ = (hasLeap (leapsOf a) m || hasLeap (leapsOf b) m) && not (eqb (mark a m) (mark b m))
-
-  line-by : differ ≡ true → lineAt end a b m ≡ lineOf end m (mark a m) (mark b m)
-  unfolding lineAt differ
-  line-by t = rw t
-
-  no-line-by : differ ≡ false → lineAt end a b m ≡ []
-  unfolding lineAt differ
-  no-line-by f = rw f
-
-  tested : lineAt end a b m ≢ [] → differ ≡ true
-  tested n = by-bool differ (λ t. t) (λ f. absurd (n (no-line-by f)))
-
-  -- a line that stands shows two marks
-  pub apart : lineAt end a b m ≢ [] → mark a m ≢ mark b m
-  unfolding differ
-  apart n e =
-      let p = and-eq-true-iff (hasLeap (leapsOf a) m || hasLeap (leapsOf b) m) (not (eqb (mark a m) (mark b m))) .0 (tested n) in
-      true≢false (sym (p .1) ∙ ap not (eq-eqb (mark a m) (mark b m) e))
-
-  -- it stands where there is a leap and the marks differ
-  pub stands : (hasLeap (leapsOf a) m || hasLeap (leapsOf b) m) ≡ true → mark a m ≢ mark b m → lineAt end a b m ≢ []
-  unfolding differ
-  stands h n e = line-there end m (mark a m) (mark b m) (sym (line-by (rw (h, ne-eqb (mark a m) (mark b m) n))) ∙ e)
-
-  -- a month has its line exactly where one list's mark is a leap and the other's is not that leap
-  pub line-exactly : wellFormed a ≡ true → wellFormed b ≡ true → (lineAt end a b m ≢ []) ↔ ((IsLeap (mark a m) ⊎ IsLeap (mark b m)) × (mark a m ≢ mark b m))
-  unfolding differ
-  line-exactly w w′ = (
-    λ n.
-        let p = and-eq-true-iff (hasLeap (leapsOf a) m || hasLeap (leapsOf b) m) (not (eqb (mark a m) (mark b m))) .0 (tested n) in (
-          ⊎-elim (λ (h : hasLeap (leapsOf a) m ≡ true). inl (leap-shown a m w .0 h)) (λ (h : hasLeap (leapsOf b) m ≡ true). inr (leap-shown b m w′ .0 h))
-              (or-true-iff (hasLeap (leapsOf a) m) (hasLeap (leapsOf b) m) .0 (p .0)),
-          apart n,
+module _ (a b : Schedule) (m : ℕ) where
+  -- the test of a line, in its parts
+  test-parts : (hasLine a b m ≡ true) ↔ (((hasLeap (leapsOf a) m ≡ true) ⊎ (hasLeap (leapsOf b) m ≡ true)) × (mark a m ≢ mark b m))
+  test-parts = (
+    λ t.
+        let p = and-eq-true-iff (hasLeap (leapsOf a) m || hasLeap (leapsOf b) m) (not (eqb (mark a m) (mark b m))) .0 t in (
+          or-true-iff (hasLeap (leapsOf a) m) (hasLeap (leapsOf b) m) .0 (p .0),
+          λ e. true≢false (sym (p .1) ∙ ap not (eq-eqb (mark a m) (mark b m) e)),
         ),
-    λ p e.
-        let h = or-true-iff (hasLeap (leapsOf a) m) (hasLeap (leapsOf b) m) .1
-        (⊎-elim (λ (l : IsLeap (mark a m)). inl (leap-shown a m w .1 l)) (λ (l : IsLeap (mark b m)). inr (leap-shown b m w′ .1 l)) (p .0)) in
-        stands h (p .1) e,
+    λ p. rw (or-true-iff (hasLeap (leapsOf a) m) (hasLeap (leapsOf b) m) .1 (p .0), ne-eqb (mark a m) (mark b m) (p .1)),
   )
 
-  -- and it shows the month and both marks
-  pub line-shows : lineAt end a b m ≢ [] → lineAt end a b m ≡ lineOf end m (mark a m) (mark b m)
-  line-shows n = line-by (tested n)
+  -- a month has its line exactly where one list's mark is a leap and the other's is not that leap
+  pub line-exactly : wellFormed a ≡ true → wellFormed b ≡ true → (hasLine a b m ≡ true) ↔ ((IsLeap (mark a m) ⊎ IsLeap (mark b m)) × (mark a m ≢ mark b m))
+  line-exactly w w′ = (
+    λ t.
+        let p = test-parts .0 t in (
+          ⊎-elim (λ (h : hasLeap (leapsOf a) m ≡ true). inl (leap-shown a m w .0 h)) (λ (h : hasLeap (leapsOf b) m ≡ true). inr (leap-shown b m w′ .0 h)) (p .0),
+          p .1,
+        ),
+    λ p. test-parts .1 (
+      ⊎-elim (λ (l : IsLeap (mark a m)). inl (leap-shown a m w .1 l)) (λ (l : IsLeap (mark b m)). inr (leap-shown b m w′ .1 l)) (p .0),
+      p .1,
+    ),
+  )
+
+  -- such a month is before 2400
+  pub line-early : wellFormed a ≡ true → wellFormed b ≡ true → hasLine a b m ≡ true → m < 2401
+  line-early w w′ t =
+      ⊎-elim (λ (h : hasLeap (leapsOf a) m ≡ true). omega (arith, early (leapsOf a) 0 (a .expiry) m (parts a w .gaps) h, parts a w .end))
+      (λ (h : hasLeap (leapsOf b) m ≡ true). omega (arith, early (leapsOf b) 0 (b .expiry) m (parts b w′ .gaps) h, parts b w′ .end))
+      (test-parts .0 t .0)

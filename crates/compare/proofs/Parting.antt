@@ -1,7 +1,7 @@
 -- Two lists contradict each other exactly where some line shows no `?`, and are the same exactly where the last line stands alone.
 -- Assumes nothing.
 use mathlib.Core.Path.{_≡_, refl, sym, ap, _∙_}
-use mathlib.Core.Bool.{true, false, _||_, true≢false}
+use mathlib.Core.Bool.{true, false, _||_, true≢false, and-false}
 use mathlib.Core.List.{List, [], _∷_, _++_}
 use mathlib.Core.Logic.{_↔_, _≢_, _⊎_, inl, inr, ⊎-elim}
 use Prim.Native.Nat.{ℕ, zero, suc, _+_, _≤_, _<_}
@@ -9,10 +9,9 @@ use native.Mathlib.Nat.{not-suc-le-zero, le-of-suc-le-suc, eq-or-lt-of-le}
 use native.Mathlib.Decide.{decLe}
 use native.Mathlib.Omega.{arith}
 use lib.Dec.{eqb}
-use lib.ListN.{length}
-use borrow.Author.Tests.{eqb-true, eqb-false, eq-eqb}
+use lib.ListN.{length, length-append}
+use borrow.Author.Tests.{eqb-true, eqb-false, eq-eqb, ne-eqb}
 use Rattle.format.specs.Ascii.{ascii, zeroByte}
-use Rattle.format.specs.Lines.{newline}
 use Rattle.schedule.specs.declared.Schedule.{Schedule}
 use Rattle.schedule.specs.Schedule.{maxLeaps, leapsOf, isExpired, wellFormed}
 use Rattle.schedule.specs.Extends.{Extends}
@@ -20,10 +19,11 @@ use Rattle.schedule.proofs.Cases.{by-bool}
 use Rattle.schedule.proofs.Expired.{not-expired, known-until}
 use Rattle.schedule.proofs.Gaps.{parts}
 use Rattle.schedule.proofs.Order.{both-ways}
-use Rattle.compare.specs.Compare.{hasLeap, leapMark, mark, lineAt, linesFrom, differences, expiries, relation}
-use Rattle.compare.proofs.Marks.{leap-marked}
+use Rattle.compare.specs.Compare.{hasLeap, leapMark, mark, Line, differ, hasLine, lineAt, monthLines, expiryLines, relation, linesOf, told}
+use Rattle.compare.proofs.Marks.{leap-marked, known-mark, known, not-unknown}
 use Rattle.compare.proofs.Told.{marks-kept, by-marks}
-use Rattle.compare.proofs.Meaning.{says-contradict, says-same, known-mark, not-unknown, known, apart, stands}
+use Rattle.compare.proofs.Meaning.{says-contradict, says-same}
+use Rattle.compare.proofs.Shown.{In, months-in, month-stands, differ-exactly}
 
 -- ---- months without a line
 
@@ -38,26 +38,27 @@ some-leap a b m n =
     (λ u. rw (t, u)))
     (λ f. rw f))
 
-module _ (end : List ℕ) (a b : Schedule) (m : ℕ) (f : isExpired (a .expiry) m ≡ false) (g : isExpired (b .expiry) m ≡ false) where
+module _ (a b : Schedule) (m : ℕ) (f : isExpired (a .expiry) m ≡ false) (g : isExpired (b .expiry) m ≡ false) where
   -- a month that both know has its line where their leaps differ
-  line-known : leapMark (leapsOf a) m ≢ leapMark (leapsOf b) m → lineAt end a b m ≢ []
-  line-known n = stands end a b m (some-leap a b m n) (λ z. n (sym (known-mark a m f) ∙ (z ∙ known-mark b m g)))
+  line-known : leapMark (leapsOf a) m ≢ leapMark (leapsOf b) m → hasLine a b m ≡ true
+  line-known n = rw (some-leap a b m n, ne-eqb (mark a m) (mark b m) (λ z. n (sym (known-mark a m f) ∙ (z ∙ known-mark b m g))))
 
   -- and where it has none they are alike
-  no-line-alike : lineAt end a b m ≡ [] → leapMark (leapsOf a) m ≡ leapMark (leapsOf b) m
+  no-line-alike : hasLine a b m ≡ false → leapMark (leapsOf a) m ≡ leapMark (leapsOf b) m
   no-line-alike e =
       by-bool (eqb (leapMark (leapsOf a) m) (leapMark (leapsOf b) m)) (λ t. eqb-true (leapMark (leapsOf a) m) (leapMark (leapsOf b) m) t)
-      (λ n. absurd (line-known (eqb-false (leapMark (leapsOf a) m) (leapMark (leapsOf b) m) n) e))
+      (λ n. absurd (true≢false (sym (line-known (eqb-false (leapMark (leapsOf a) m) (leapMark (leapsOf b) m) n)) ∙ e)))
 
 -- ---- a line without `?`
 
--- a month whose line shows what both lists know, and not the same
+-- a line that shows what both lists know: neither mark is `?`
 pub record Parting (a b : Schedule) : Type 0 where
   pub month : ℕ
-  pub within : month ≤ 2400
-  pub line : lineAt (newline ∷ []) a b month ≢ []
-  pub first-known : mark a month ≢ 63
-  pub second-known : mark b month ≢ 63
+  pub first : ℕ
+  pub second : ℕ
+  pub line : In (differ month first second) (linesOf a b)
+  pub first-known : first ≢ 63
+  pub second-known : second ≢ 63
 
 -- the months before n that a list knows are marked alike, or one is not
 module _ (a b : Schedule) (e : ℕ) where
@@ -94,8 +95,9 @@ module _ (a b : Schedule) (w : wellFormed a ≡ true) (w′ : wellFormed b ≡ t
       let g = not-expired (b .expiry) (u .month) (omega (arith, u .inside)) in
       record {
         month = u .month;
-        within = omega (arith, u .inside, parts b w′ .end);
-        line = line-known (newline ∷ []) a b (u .month) f g (u .unlike);
+        first = mark a (u .month);
+        second = mark b (u .month);
+        line = month-stands a b (u .month) (omega (arith, u .inside, parts b w′ .end)) (line-known a b (u .month) f g (u .unlike));
         first-known = known a (u .month) f;
         second-known = known b (u .month) g;
       }
@@ -117,19 +119,19 @@ module _ (a b : Schedule) (w : wellFormed a ≡ true) (w′ : wellFormed b ≡ t
             (found a b (a .expiry) (a .expiry))
       ]
 
-  -- what both lists know and say otherwise, no extension has
+  -- what both lists know and say otherwise
   not-alike : (p : Parting a b) → (isExpired (a .expiry) (p .month) ≡ false) × (isExpired (b .expiry) (p .month) ≡ false) × (leapMark (leapsOf a) (p .month) ≢ leapMark (leapsOf b) (p .month))
   not-alike p =
-      let f = not-unknown a (p .month) (p .first-known) in
-      let g = not-unknown b (p .month) (p .second-known) in (
+      let s = differ-exactly a b w w′ (p .month) (p .first) (p .second) .0 (p .line) in
+      let f = not-unknown a (p .month) (λ z. p .first-known (s .0 ∙ z)) in
+      let g = not-unknown b (p .month) (λ z. p .second-known (s .1 ∙ z)) in (
         f,
         g,
-        λ e. apart (newline ∷ []) a b (p .month) (p .line)
-            (known-mark a (p .month) f ∙ (e ∙ sym (known-mark b (p .month) g))),
+        λ e. s .2 .1 (s .0 ∙ (known-mark a (p .month) f ∙ (e ∙ (sym (known-mark b (p .month) g) ∙ sym (s .1))))),
       )
 
   -- the last line is `contradict` exactly where some line shows no `?`
-  pub contradict-by-line : (relation a b ≡ ascii "contradict") ↔ Parting a b
+  pub contradict-by-line : (told (relation a b) ≡ ascii "contradict") ↔ Parting a b
   contradict-by-line = (
     λ e.
         let n = says-contradict a b .0 e in
@@ -141,49 +143,55 @@ module _ (a b : Schedule) (w : wellFormed a ≡ true) (w′ : wellFormed b ≡ t
 
 -- ---- the last line alone
 
-empty-both : (xs ys : List ℕ) → xs ++ ys ≡ [] → (xs ≡ []) × (ys ≡ [])
-empty-both [] ys e = (refl, e)
-empty-both (x ∷ xs) ys e = absurd (omega (arith, ap length e))
-
 -- no line of n months from m on: none of each
-each-none : (end : List ℕ) (a b : Schedule) (m n : ℕ) → linesFrom end a b m n ≡ [] → (k : ℕ) → m ≤ k → k < m + n → lineAt end a b k ≡ []
-unfolding linesFrom
-each-none end a b m zero e k h g = absurd (omega arith)
-each-none end a b m (suc n) e k h g =
-    let p = empty-both (lineAt end a b m) (linesFrom end a b (m + 1) n) e in
-    ⊎-elim (λ (z : m ≡ k). rw (← z) (p .0)) (λ (l : m < k). each-none end a b (m + 1) n (p .1) k (omega arith) (omega arith)) (eq-or-lt-of-le h)
+each-none : (a b : Schedule) (m n : ℕ) → monthLines a b m n ≡ [] → (k : ℕ) → m ≤ k → k < m + n → hasLine a b k ≡ false
+each-none a b m n e k h g =
+    by-bool (hasLine a b k) (λ t. absurd (let stands = months-in a b m n k h g t in rw e at stands)) (λ f. f)
 
 -- a list compared with itself has none
-no-line : (end : List ℕ) (a : Schedule) (m : ℕ) → lineAt end a a m ≡ []
-unfolding lineAt
-no-line end a m = rw (eq-eqb (mark a m) (mark a m) refl) (by-bool (hasLeap (leapsOf a) m) (λ t. rw t) (λ f. rw f))
+no-line : (a : Schedule) (m : ℕ) → hasLine a a m ≡ false
+no-line a m = rw (eq-eqb (mark a m) (mark a m) refl) (and-false (hasLeap (leapsOf a) m || hasLeap (leapsOf a) m))
 
-no-lines : (end : List ℕ) (a : Schedule) (m n : ℕ) → linesFrom end a a m n ≡ []
-unfolding linesFrom
-no-lines end a m zero = refl
-no-lines end a m (suc n) = rw (no-line end a m) (no-lines end a (m + 1) n)
+no-lines : (a : Schedule) (m n : ℕ) → monthLines a a m n ≡ []
+unfolding monthLines lineAt
+no-lines a m zero = refl
+no-lines a m (suc n) = rw (no-line a m) (no-lines a (m + 1) n)
 
-expiries-same : (end : List ℕ) (a b : Schedule) → expiries end a b ≡ [] → a .expiry ≡ b .expiry
-unfolding expiries
-expiries-same end a b e =
+expiries-same : (a b : Schedule) → expiryLines a b ≡ [] → a .expiry ≡ b .expiry
+unfolding expiryLines
+expiries-same a b e =
     by-bool (eqb (a .expiry) (b .expiry)) (λ t. eqb-true (a .expiry) (b .expiry) t) (λ f. absurd (omega (arith, ap length (rw f at e))))
 
-module _ (end : List ℕ) (a b : Schedule) (full : length (a .leaps) ≡ maxLeaps) (full′ : length (b .leaps) ≡ maxLeaps) (w : wellFormed a ≡ true) (w′ : wellFormed b ≡ true) where
-  -- no other line stands exactly where the lists are equal
-  pub alone-if-equal : (differences end a b ++ expiries end a b ≡ []) ↔ (a ≡ b)
-  unfolding expiries
+no-expiries : (a : Schedule) → expiryLines a a ≡ []
+unfolding expiryLines
+no-expiries a = rw (eq-eqb (a .expiry) (a .expiry) refl)
+
+none : (xs : List Line) → length xs ≡ 0 → xs ≡ []
+none [] e = refl
+none (x ∷ xs) e = absurd (omega arith)
+
+-- the last line alone: no other
+others-none : (xs ys : List Line) (l k : Line) → xs ++ (ys ++ (l ∷ [])) ≡ k ∷ [] → (xs ≡ []) × (ys ≡ [])
+others-none xs ys l k e =
+    let n : length xs + (length ys + 1) ≡ 1 = sym (length-append xs (ys ++ (l ∷ [])) ∙ ap (λ (z : ℕ). length xs + z) (length-append ys (l ∷ []))) ∙ ap length e in
+    (none xs (omega arith), none ys (omega arith))
+
+module _ (a b : Schedule) (full : length (a .leaps) ≡ maxLeaps) (full′ : length (b .leaps) ≡ maxLeaps) (w : wellFormed a ≡ true) (w′ : wellFormed b ≡ true) where
+  -- the last line stands alone exactly where the lists are equal
+  pub alone-if-equal : (linesOf a b ≡ relation a b ∷ []) ↔ (a ≡ b)
+  unfolding linesOf
   alone-if-equal = (
     λ e.
-        let p = empty-both (differences end a b) (expiries end a b) e in
-        let z = expiries-same end a b (p .1) in
+        let p = others-none (monthLines a b 0 2401) (expiryLines a b) (relation a b) (relation a b) e in
+        let z = expiries-same a b (p .1) in
         let alike : (m : ℕ) → isExpired (a .expiry) m ≡ false → leapMark (leapsOf a) m ≡ leapMark (leapsOf b) m
-        = λ m f. no-line-alike end a b m f (rw z at f) (each-none end a b 0 2401 (p .0) m (omega arith) (omega (arith, known-until (a .expiry) m f, parts a w .end))) in
+        = λ m f. no-line-alike a b m f (rw z at f) (each-none a b 0 2401 (p .0) m (omega arith) (omega (arith, known-until (a .expiry) m f, parts a w .end))) in
         both-ways a b full full′ w w′ (by-marks a b w w′ (omega (arith, z)) (λ m f. alike m (rw z f))) (by-marks b a w′ w (omega (arith, z)) (λ m f. sym (alike m f))),
-    λ e. rw (← e, no-lines end a 0 2401, eq-eqb (a .expiry) (a .expiry) refl),
+    λ e. rw (← e, no-lines a 0 2401, no-expiries a),
   )
 
-  -- and exactly where the last line is `same`
-  pub alone-if-same : (differences end a b ++ expiries end a b ≡ []) ↔ (relation a b ≡ ascii "same")
+  -- and exactly where it is `same`
+  pub alone-if-same : (linesOf a b ≡ relation a b ∷ []) ↔ (told (relation a b) ≡ ascii "same")
   alone-if-same = (
     λ e. says-same a b full full′ w w′ .1 (alone-if-equal .0 e),
     λ e. alone-if-equal .1 (says-same a b full full′ w w′ .0 e),

@@ -20,7 +20,9 @@ use Rattle.schedule.specs.Extends.{extends}
 use Rattle.schedule.proofs.Cases.{by-bool}
 use Rattle.schedule.proofs.Gaps.{fits-le, first, parts}
 use Rattle.compare.proofs.Marks.{leap-marked}
-use Rattle.compare.specs.Compare.{leapMark, mark, lineOf, lineAt, linesFrom, expiries, relationBy, comparison, compared}
+use Rattle.compare.specs.Compare.{leapMark, mark, relationBy, compared}
+use Rattle.compare.specs.Inner.{lineBytes, monthBytes, monthsBytes, expiryBytes, comparison}
+use Rattle.compare.proofs.Bytes.{compared-bytes}
 
 -- the most bytes of the line of a month
 wide : ℕ → ℕ
@@ -45,16 +47,16 @@ total ls m (suc n) = weight ls m + total ls (m + 1) n
 
 -- ---- the lines by the weights
 
-full-line : (m x y : ℕ) → length (lineOf (newline ∷ []) m x y) ≡ length (decimal m) + 5
+full-line : (m x y : ℕ) → length (lineBytes (newline ∷ []) m x y) ≡ length (decimal m) + 5
 full-line m x y = length-append (decimal m) (spaceByte ∷ x ∷ spaceByte ∷ y ∷ newline ∷ [])
 
-line-weight : (a b : Schedule) (m : ℕ) → m < 10000 → length (lineAt (newline ∷ []) a b m) ≤ weight (leapsOf a) m + weight (leapsOf b) m
-unfolding lineAt weight
+line-weight : (a b : Schedule) (m : ℕ) → m < 10000 → length (monthBytes (newline ∷ []) a b m) ≤ weight (leapsOf a) m + weight (leapsOf b) m
+unfolding monthBytes weight
 line-weight a b m h =
     rw (leap-marked (leapsOf a) m, leap-marked (leapsOf b) m) (go (eqb (leapMark (leapsOf a) m) zeroByte) (eqb (leapMark (leapsOf b) m) zeroByte) (eqb (mark a m) (mark b m)))
   where
     line : List ℕ
-    line = lineOf (newline ∷ []) m (mark a m) (mark b m)
+    line = lineBytes (newline ∷ []) m (mark a m) (mark b m)
 
     fits : length line ≤ wide m
     fits = rw (full-line m (mark a m) (mark b m)) (digits-most m h)
@@ -69,11 +71,11 @@ line-weight a b m h =
     go false false true = omega arith
     go false false false = omega (arith, fits)
 
-lines-weight : (a b : Schedule) (m n : ℕ) → m + n ≤ 2401 → length (linesFrom (newline ∷ []) a b m n) ≤ total (leapsOf a) m n + total (leapsOf b) m n
-unfolding linesFrom total
+lines-weight : (a b : Schedule) (m n : ℕ) → m + n ≤ 2401 → length (monthsBytes (newline ∷ []) a b m n) ≤ total (leapsOf a) m n + total (leapsOf b) m n
+unfolding monthsBytes total
 lines-weight a b m zero h = omega arith
 lines-weight a b m (suc n) h =
-    rw (length-append (lineAt (newline ∷ []) a b m) (linesFrom (newline ∷ []) a b (m + 1) n))
+    rw (length-append (monthBytes (newline ∷ []) a b m) (monthsBytes (newline ∷ []) a b (m + 1) n))
     (omega (arith, line-weight a b m (omega arith), lines-weight a b (m + 1) n (omega arith)))
 
 -- ---- the weights of a list's leaps
@@ -135,8 +137,8 @@ list-most (l ∷ ls) e n f h =
 few-leaps : (s : Schedule) → wellFormed s ≡ true → length (leapsOf s) ≤ 256
 few-leaps s w = omega (arith, length-take (s .count) (s .leaps), parts s w .room)
 
-expiries-most : (a b : Schedule) → wellFormed a ≡ true → wellFormed b ≡ true → length (expiries (newline ∷ []) a b) ≤ 12
-unfolding expiries
+expiries-most : (a b : Schedule) → wellFormed a ≡ true → wellFormed b ≡ true → length (expiryBytes (newline ∷ []) a b) ≤ 12
+unfolding expiryBytes
 expiries-most a b w v =
     by-bool (eqb (a .expiry) (b .expiry)) (λ t. rw t (omega arith))
     (λ f. rw (f, length-append (decimal (a .expiry)) (spaceByte ∷ decimal (b .expiry) ++ (newline ∷ [])), length-append (decimal (b .expiry)) (newline ∷ []))
@@ -149,9 +151,9 @@ relation-most true false = omega arith
 relation-most false true = omega arith
 relation-most false false = omega arith
 
-pub at-most : (a b : Schedule) → wellFormed a ≡ true → wellFormed b ≡ true → length (compared a b) ≤ 4629
+bytes-most : (a b : Schedule) → wellFormed a ≡ true → wellFormed b ≡ true → length (comparison true a b ++ (newline ∷ [])) ≤ 4629
 unfolding comparison between
-at-most a b w v =
+bytes-most a b w v =
     simp length-append
     (omega (
       arith,
@@ -161,3 +163,7 @@ at-most a b w v =
       expiries-most a b w v,
       relation-most (extends a b) (extends b a),
     ))
+
+-- a comparison has at most 4,629 bytes
+pub at-most : (a b : Schedule) → wellFormed a ≡ true → wellFormed b ≡ true → length (compared a b) ≤ 4629
+at-most a b w v = rw (compared-bytes a b) (bytes-most a b w v)

@@ -16,8 +16,9 @@ use Rattle.schedule.specs.declared.Schedule.{Schedule}
 use Rattle.schedule.specs.Schedule.{leapsOf, isExpired, gapsFit, wellFormed}
 use Rattle.schedule.specs.Extends.{below, Extends}
 use Rattle.schedule.proofs.Cases.{by-bool}
-use Rattle.schedule.proofs.Expired.{is-expired, not-expired, expired-from}
-use Rattle.schedule.proofs.Gaps.{fits-lt, first, later, before-end, parts}
+use Rattle.schedule.proofs.Expired.{not-expired, expired-from}
+use Rattle.schedule.proofs.Extension.{leap-path, below-none}
+use Rattle.schedule.proofs.Gaps.{later, before-end, parts}
 use Rattle.text.specs.Bytes.{signByte}
 use Rattle.compare.specs.Compare.{leapMark}
 use Rattle.compare.proofs.Marks.{sign-some, none-yet}
@@ -32,15 +33,6 @@ below-marks e (l ∷ ls) m f =
     by-bool (isExpired e (l .month))
     (λ t. rw (t, ne-eqb (l .month) m (λ z. true≢false (sym t ∙ (ap (isExpired e) z ∙ f)))) (below-marks e ls m f))
     (λ g. rw g (ap (λ (x : ℕ). cond (eqb (l .month) m) (signByte (l .sign)) x) (below-marks e ls m f)))
-
--- there is none where the first is at or after it
-none-below : (e from : ℕ) (ls : List Leap) (end : ℕ) → gapsFit from ls end ≡ true → isExpired e from ≡ true → below e ls ≡ []
-unfolding below
-none-below e from [] end g t = refl
-none-below e from (l ∷ ls) end g t =
-    let up = fits-lt from (l .month) (first from l ls end g) in
-    let here = is-expired e (l .month) (omega (arith, expired-from e from t)) in
-    rw here (none-below e (l .month) ls end (later from l ls end g) here)
 
 -- ---- leaps with the same marks
 
@@ -85,7 +77,7 @@ told from [] [] e f g h a = refl
 told from [] (y ∷ ys) e f g h a =
     absurd (not-both (y .sign) (at-leap y ys (y .month) refl) (sym (a (y .month) (not-expired f (y .month) (before-end ys (y .month) f (later from y ys f h))))))
 told from (x ∷ xs) [] e f g h a =
-    by-bool (isExpired f (x .month)) (λ t. rw t (none-below f (x .month) xs e (later from x xs e g) t))
+    by-bool (isExpired f (x .month)) (λ t. rw t (below-none f (x .month) xs e (later from x xs e g) (expired-from f (x .month) t)))
     (λ n. absurd (not-both (x .sign) (at-leap x xs (x .month) refl) (a (x .month) n)))
 told from (x ∷ xs) (y ∷ ys) e f g h a =
     let more = later from x xs e g in
@@ -104,7 +96,7 @@ told from (x ∷ xs) (y ∷ ys) e f g h a =
             | no k ↦
                 let z : x .month ≡ y .month = omega arith in
                 let s : x .sign ≡ y .sign = sign-told (x .sign) (y .sign) (sym (at-leap x xs (y .month) z) ∙ (a (y .month) known ∙ at-leap y ys (y .month) refl)) in
-                let p : x ≡ y = λ i. record { month = z i; sign = s i } in
+                let p : x ≡ y = leap-path z s in
                 let more″ = rw (← z) at more′ in
                 rw (not-expired f (x .month) (omega (arith, before-end ys (y .month) f more′)))
                 (ap₂ (λ v vs. v ∷ vs) p (told (x .month) xs ys e f more more″ (rest-alike x xs ys e f more more″ (rw (← p) at a))))

@@ -18,8 +18,8 @@ use Rattle.compare.specs.Longer.{aboutBoth}
 use Rattle.compare.specs.Inner.{notRead, bothRead}
 
 -- the list that a text is read as
-abbrev pub listOf : List ℕ → Schedule
-listOf x = readText x .schedule
+abbrev pub readAs : List ℕ → Schedule
+readAs x = readText x .schedule
 
 -- a text that is read
 abbrev pub Taken : List ℕ → Type 0
@@ -34,7 +34,7 @@ module _ {A : Type 0} (x y : List ℕ) (refuse : ℕ → A) (f : Schedule → Sc
   second-refused t n = read-taken _ _ refl t ∙ read-refused _ _ refl n
 
   -- or an answer about both
-  pub both-taken : Taken x → Taken y → aboutBoth x y refuse f ≡ f (listOf x) (listOf y)
+  pub both-taken : Taken x → Taken y → aboutBoth x y refuse f ≡ f (readAs x) (readAs y)
   both-taken t u = read-taken _ _ refl t ∙ read-taken _ _ refl u
 
 -- one of two texts is refused, or both are read
@@ -57,7 +57,7 @@ module _ (x y : List ℕ) where
   unfolding bothRead
   second-not t n = second-refused x y _ _ t n
 
-  read-both : Taken x → Taken y → bothRead x y ≡ record { number = 0; first = listOf x; second = listOf y }
+  read-both : Taken x → Taken y → bothRead x y ≡ record { number = 0; first = readAs x; second = readAs y }
   unfolding bothRead
   read-both t u = both-taken x y _ _ t u
 
@@ -78,7 +78,7 @@ module _ (x y : List ℕ) where
           by-texts x y (λ k. absurd (k (sym (number-of (first-not k)) ∙ z))) (λ t k. absurd (k (sym (number-of (second-not t k)) ∙ z)))
           (λ t u. (t, u))
 
-      whole : r ≡ record { number = 0; first = listOf x; second = listOf y }
+      whole : r ≡ record { number = 0; first = readAs x; second = readAs y }
       whole = e ∙ read-both (both .0) (both .1)
 
       -- it is 0: an answer is one about the lists that the code has, and they are well formed

@@ -1,6 +1,7 @@
 -- 7/14 worked by hand, as one table under one claim: what comparing two texts answers and writes, and which of them is the longer.
 -- Assumes nothing.
 use mathlib.Core.Path.{_≡_, refl}
+use mathlib.Core.Bool.{Bool, true, false}
 use mathlib.Core.List.{List, [], _∷_}
 use Prim.Native.Nat.{ℕ}
 use Prim.Native.String.{String}
@@ -14,18 +15,21 @@ use Rattle.text.specs.Read.{readFrom, readText}
 use Rattle.compare.specs.declared.longer.Chosen.{Chosen}
 use Rattle.compare.specs.declared.longer.Chosen.the-variants.{First, Second, Refused}
 use Rattle.compare.specs.Longer.{chosenOf, chosen}
-use Rattle.compare.specs.Compare.{hasLeap, leapMark, lineAt, linesFrom, expiries, relationBy, comparison, comparing, comparedInto}
+use Rattle.compare.specs.Compare.{hasLeap, leapMark, lineAt, monthLines, expiryLines, linesOf, relationBy, inLines, joined, compared, comparing, comparedInto, comparisonOf}
 
--- a row: two texts and what an output that held other bytes then holds; two texts, a room and the number of the refusal; two texts and the longer
+-- a row: two texts and what an output that held other bytes then holds; two texts, a room, and the number and the count that are answered; two
+-- texts and what the program answers, in lines or in one; two texts and the longer
 pub data Row : Type 0 where
   writes : String → String → String → String → Row
-  refuses : String → String → ℕ → ℕ → Row
+  answers : String → String → ℕ → ℕ → ℕ → Row
+  prints : Bool → String → String → String → Row
   longer : String → String → Chosen → Row
 
 -- what a row says
 abbrev pub Says : Row → Type 0
 Says (writes x y before after) = comparedInto (ascii x) (ascii y) (ascii before) ≡ ascii after
-Says (refuses x y room n) = comparing (ascii x) (ascii y) room ≡ record { number = n; count = 0 }
+Says (answers x y room n count) = comparing (ascii x) (ascii y) room ≡ record { number = n; count = count }
+Says (prints lines x y text) = comparisonOf lines (ascii x) (ascii y) ≡ ascii text
 Says (longer x y c) = chosen (ascii x) (ascii y) ≡ c
 
 abbrev pub SayAll : List Row → Type 0
@@ -45,11 +49,19 @@ table =
     ∷ writes "6+5?" "6-5?" "................." "6 + -\ncontradict\n"
     ∷ writes "6-5?" "6-5?" ".......same\n" "same\n..same\n"
     -- the first list's refusal comes before the second's, and both before 7, which goes by the whole comparison
-    ∷ refuses "06+5?" "" 100 3
-    ∷ refuses "5?" "" 0 1
-    ∷ refuses "5?" "5" 0 1
-    ∷ refuses "5?" "5?" 4 7
+    ∷ answers "06+5?" "" 100 3 0
+    ∷ answers "5?" "" 0 1 0
+    ∷ answers "5?" "5" 0 1 0
+    ∷ answers "5?" "5?" 4 7 0
     ∷ writes "5?" "5?" "1234" "1234"
+    -- the count is that of the bytes written
+    ∷ answers "5?" "5?" 5 0 5
+    ∷ answers "6+6+5?" "6+12+5?" 33 0 33
+    -- the program: lines with LF between them, or `; `; of a refusal the number alone
+    ∷ prints true "6?" "6+5?" "6 ? +\n= 6 11\nextends 2"
+    ∷ prints false "6?" "6+5?" "6 ? +; = 6 11; extends 2"
+    ∷ prints true "06+5?" "5" "3"
+    ∷ prints false "5?" "5?x" "6"
     -- the longer of two, the first if they are the same, and none of two that contradict each other
     ∷ longer "6+5?" "6+5?" First
     ∷ longer "6+6+5?" "6+5?" First
@@ -61,5 +73,5 @@ table =
 
 -- every row of the table holds of the definitions
 pub worked : SayAll table
-unfolding readText readFrom byReading fitting fitted comparison linesFrom lineAt hasLeap leapMark isExpired expiries relationBy between decimal digitsIn below sameLeaps chosenOf
-worked = (refl, (refl, (refl, (refl, (refl, (refl, (refl, (refl, (refl, (refl, (refl, (refl, (refl, (refl, (refl, (refl, (refl, tt)))))))))))))))))
+unfolding readText readFrom byReading fitting fitted compared inLines joined linesOf monthLines lineAt hasLeap leapMark isExpired expiryLines relationBy between decimal digitsIn below sameLeaps chosenOf
+worked = (refl, (refl, (refl, (refl, (refl, (refl, (refl, (refl, (refl, (refl, (refl, (refl, (refl, (refl, (refl, (refl, (refl, (refl, (refl, (refl, (refl, (refl, (refl, tt)))))))))))))))))))))))

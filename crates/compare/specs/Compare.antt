@@ -34,46 +34,63 @@ isUnknown s m = isExpired (s .expiry) m
 abbrev pub mark : Schedule → ℕ → ℕ
 mark s m = cond (isUnknown s m) endByte (leapMark (leapsOf s) m)
 
--- a month, the first mark and the second mark; and what ends the line
-abbrev pub lineOf : List ℕ → ℕ → ℕ → ℕ → List ℕ
-lineOf end m x y = decimal m ++ (spaceByte ∷ x ∷ spaceByte ∷ y ∷ end)
+-- a line of a comparison: a month, the first mark and the second mark; both expiries; or how the two lists stand to each other, by whether the
+-- first extends the second, and the second the first
+pub data Line : Type 0 where
+  differ : ℕ → ℕ → ℕ → Line
+  expire : ℕ → ℕ → Line
+  relate : Bool → Bool → Line
 
--- the line of a month at which either list has a leap and their marks differ; other months have none
-unfoldable pub lineAt : List ℕ → Schedule → Schedule → ℕ → List ℕ
-lineAt end a b m =
-    cond ((hasLeap (leapsOf a) m || hasLeap (leapsOf b) m) && not (eqb (mark a m) (mark b m))) (lineOf end m (mark a m) (mark b m)) []
+-- a month has a line if either list has a leap there and their marks differ
+abbrev pub hasLine : Schedule → Schedule → ℕ → Bool
+hasLine a b m = (hasLeap (leapsOf a) m || hasLeap (leapsOf b) m) && not (eqb (mark a m) (mark b m))
+
+unfoldable pub lineAt : Schedule → Schedule → ℕ → List Line
+lineAt a b m = cond (hasLine a b m) (differ m (mark a m) (mark b m) ∷ []) []
 
 -- the lines of n months from month m on, rising
-unfoldable pub linesFrom : List ℕ → Schedule → Schedule → ℕ → ℕ → List ℕ
-linesFrom end a b m zero = []
-linesFrom end a b m (suc n) = lineAt end a b m ++ linesFrom end a b (m + 1) n
+unfoldable pub monthLines : Schedule → Schedule → ℕ → ℕ → List Line
+monthLines a b m zero = []
+monthLines a b m (suc n) = lineAt a b m ++ monthLines a b (m + 1) n
 
--- the lines of all months, 0 to 2400
-abbrev pub differences : List ℕ → Schedule → Schedule → List ℕ
-differences end a b = linesFrom end a b 0 (lastMonth + 1)
+-- if the expiries differ, a line with both
+unfoldable pub expiryLines : Schedule → Schedule → List Line
+expiryLines a b = cond (eqb (a .expiry) (b .expiry)) [] (expire (a .expiry) (b .expiry) ∷ [])
 
--- if the expiries differ, `=` and both
-unfoldable pub expiries : List ℕ → Schedule → Schedule → List ℕ
-expiries end a b = cond (eqb (a .expiry) (b .expiry)) [] (ascii "= " ++ (decimal (a .expiry) ++ (spaceByte ∷ decimal (b .expiry) ++ end)))
+-- the last line
+abbrev pub relation : Schedule → Schedule → Line
+relation a b = relate (extends a b) (extends b a)
 
--- how two lists stand to each other, by whether the first extends the second, and the second the first
+-- the lines of a comparison: those of the months 0 to 2400, of the expiries, and the last one
+unfoldable pub linesOf : Schedule → Schedule → List Line
+linesOf a b = monthLines a b 0 (lastMonth + 1) ++ (expiryLines a b ++ (relation a b ∷ []))
+
 unfoldable pub relationBy : Bool → Bool → List ℕ
 relationBy true true = ascii "same"
 relationBy true false = ascii "extends 1"
 relationBy false true = ascii "extends 2"
 relationBy false false = ascii "contradict"
 
--- the last line
-abbrev pub relation : Schedule → Schedule → List ℕ
-relation a b = relationBy (extends a b) (extends b a)
+-- a line in bytes
+abbrev pub told : Line → List ℕ
+told (differ m x y) = decimal m ++ (spaceByte ∷ x ∷ spaceByte ∷ y ∷ [])
+told (expire e f) = ascii "= " ++ (decimal e ++ (spaceByte ∷ decimal f))
+told (relate p q) = relationBy p q
 
--- the whole comparison, with LF between its lines, or `; `
-unfoldable pub comparison : Bool → Schedule → Schedule → List ℕ
-comparison lines a b = differences (between lines) a b ++ (expiries (between lines) a b ++ relation a b)
+-- lines in bytes, one to a line, LF ended
+unfoldable pub inLines : List Line → List ℕ
+inLines [] = []
+inLines (l ∷ ls) = told l ++ (newline ∷ inLines ls)
 
--- the comparison in lines, each LF ended
-abbrev pub compared : Schedule → Schedule → List ℕ
-compared a b = comparison true a b ++ (newline ∷ [])
+-- lines in bytes with something between them
+unfoldable pub joined : List ℕ → List Line → List ℕ
+joined sep [] = []
+joined sep (l ∷ []) = told l
+joined sep (l ∷ k ∷ ks) = told l ++ (sep ++ joined sep (k ∷ ks))
+
+-- the comparison of two lists
+unfoldable pub compared : Schedule → Schedule → List ℕ
+compared a b = inLines (linesOf a b)
 
 -- what comparing two text lists answers: the first list's refusal, then the second's, then 7, else the count of bytes
 abbrev pub comparing : List ℕ → List ℕ → ℕ → Writing
@@ -83,6 +100,6 @@ comparing x y room = aboutBoth x y unwritten (λ a b. fitting (compared a b) roo
 abbrev pub comparedInto : List ℕ → List ℕ → List ℕ → List ℕ
 comparedInto x y out = aboutBoth x y (λ n. out) (λ a b. fitted (compared a b) out)
 
--- the comparison of two text lists as the program answers it; of a refusal the number alone
+-- the comparison of two text lists as the program answers it, with LF between its lines, or `; `; of a refusal the number alone
 abbrev pub comparisonOf : Bool → List ℕ → List ℕ → List ℕ
-comparisonOf lines x y = aboutBoth x y decimal (comparison lines)
+comparisonOf lines x y = aboutBoth x y decimal (λ a b. joined (between lines) (linesOf a b))

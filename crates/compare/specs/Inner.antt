@@ -1,23 +1,27 @@
 -- What only the contracts of private functions say. No promise to a caller rests on reading this file.
 -- Assumes nothing: these are definitions.
-use Prim.Native.Nat.{ℕ}
-use mathlib.Core.Bool.{cond}
-use mathlib.Core.List.{List, [], _∷_}
+use Prim.Native.Nat.{ℕ, zero, suc, _+_}
+use mathlib.Core.Bool.{Bool, cond}
+use mathlib.Core.List.{List, [], _∷_, _++_}
 use lib.Dec.{eqb}
 use lib.ListN.{drop}
-use Rattle.format.specs.Ascii.{zeroByte}
+use Rattle.format.specs.Ascii.{ascii, zeroByte}
+use Rattle.format.specs.Decimal.{decimal}
+use Rattle.format.specs.Lines.{spaceByte, between}
 use Rattle.schedule.specs.declared.Leap.{Leap}
 use Rattle.schedule.specs.declared.Schedule.{Schedule}
-use Rattle.schedule.specs.Schedule.{blankSchedule, leapsOf}
+use Rattle.schedule.specs.Schedule.{blankSchedule, leapsOf, lastMonth}
+use Rattle.schedule.specs.Extends.{extends}
 use Rattle.text.specs.Bytes.{signByte, endByte}
 use Rattle.compare.specs.declared.texts.Both.{Both}
 use Rattle.compare.specs.Longer.{aboutBoth}
-use Rattle.compare.specs.Compare.{isUnknown, lineOf}
+use Rattle.compare.specs.Compare.{isUnknown, mark, hasLine, relationBy}
 
--- what reading two texts gives: the number of the first refusal, or 0 and both lists
+-- a text that is not read
 abbrev pub notRead : ℕ → Both
 notRead n = record { number = n; first = blankSchedule; second = blankSchedule }
 
+-- what reading two texts gives: the number of the first refusal, or 0 and both lists
 unfoldable pub bothRead : List ℕ → List ℕ → Both
 bothRead x y = aboutBoth x y notRead (λ a b. record { number = 0; first = a; second = b })
 
@@ -46,6 +50,28 @@ leapsFrom s i = drop i (leapsOf s)
 abbrev pub markFrom : Schedule → ℕ → ℕ → ℕ
 markFrom s i m = cond (isUnknown s m) endByte (firstMark (leapsFrom s i) m)
 
--- a line for two marks that differ
+-- the line of a month and what stands after it
+abbrev pub lineBytes : List ℕ → ℕ → ℕ → ℕ → List ℕ
+lineBytes end m x y = decimal m ++ (spaceByte ∷ x ∷ spaceByte ∷ y ∷ end)
+
+-- that of two marks that differ
 unfoldable pub markLine : List ℕ → ℕ → ℕ → ℕ → List ℕ
-markLine end m x y = cond (eqb x y) [] (lineOf end m x y)
+markLine end m x y = cond (eqb x y) [] (lineBytes end m x y)
+
+-- the bytes of a month, of n months from month m on, and of the expiries; each line with what stands after it
+unfoldable pub monthBytes : List ℕ → Schedule → Schedule → ℕ → List ℕ
+monthBytes end a b m = cond (hasLine a b m) (lineBytes end m (mark a m) (mark b m)) []
+
+unfoldable pub monthsBytes : List ℕ → Schedule → Schedule → ℕ → ℕ → List ℕ
+monthsBytes end a b m zero = []
+monthsBytes end a b m (suc n) = monthBytes end a b m ++ monthsBytes end a b (m + 1) n
+
+abbrev pub differences : List ℕ → Schedule → Schedule → List ℕ
+differences end a b = monthsBytes end a b 0 (lastMonth + 1)
+
+unfoldable pub expiryBytes : List ℕ → Schedule → Schedule → List ℕ
+expiryBytes end a b = cond (eqb (a .expiry) (b .expiry)) [] (ascii "= " ++ (decimal (a .expiry) ++ (spaceByte ∷ decimal (b .expiry) ++ end)))
+
+-- the whole comparison, with LF between its lines, or `; `
+unfoldable pub comparison : Bool → Schedule → Schedule → List ℕ
+comparison lines a b = differences (between lines) a b ++ (expiryBytes (between lines) a b ++ relationBy (extends a b) (extends b a))

@@ -2,7 +2,7 @@
 -- Assumes nothing: these are definitions.
 use Prim.Native.Nat.{ℕ}
 use mathlib.Core.Path.{_≡_}
-use mathlib.Core.Bool.{Bool, not, _&&_, cond}
+use mathlib.Core.Bool.{cond}
 use mathlib.Core.List.{List, []}
 use denote.Ref.{RefT, ptr, now}
 use Rattle.refusals.specs.Refusals.{contradiction}
@@ -13,11 +13,7 @@ use Rattle.text.specs.Read.{readText}
 use Rattle.compare.specs.declared.longer.Chosen.{Chosen}
 use Rattle.compare.specs.declared.longer.Chosen.the-variants.{First, Second, Refused}
 
--- "contradict": neither list extends the other
-abbrev pub contradict : Schedule → Schedule → Bool
-contradict a b = not (extends a b) && not (extends b a)
-
--- the longer of two schedules is the one that extends the other, the first if they are the same; 16 where they contradict
+-- the longer of two schedules is the one that extends the other, the first if they are the same; 16 where they contradict: neither extends the other
 unfoldable pub chosenOf : Schedule → Schedule → Chosen
 chosenOf a b = cond (extends a b) First (cond (extends b a) Second (Refused contradiction))
 

@@ -8,8 +8,8 @@ ghost use Rattle.format.specs.Output.{PutsUpTo};
 ghost use Rattle.format.specs.Lines.{between};
 ghost use Rattle.schedule.specs.Schedule.{wellFormed};
 ghost use Rattle.schedule.specs.Answers.{fitting, fitted};
-ghost use Rattle.compare.specs.Compare.{isUnknown, differences, expiries, relationBy, comparison, compared, comparing, comparedInto, comparisonOf};
-ghost use Rattle.compare.specs.Inner.{firstMonth, leapsFrom, markOfLeap, markFrom, markLine};
+ghost use Rattle.compare.specs.Compare.{isUnknown, relationBy, compared, comparing, comparedInto, comparisonOf};
+ghost use Rattle.compare.specs.Inner.{firstMonth, leapsFrom, markOfLeap, markFrom, markLine, differences, expiryBytes, comparison};
 use crate::texts::read_both;
 use format::decimal::put_decimal;
 use format::lines::put_between;
@@ -82,6 +82,7 @@ fn passed(s: Schedule, i: usize, month: u32) -> usize
     i
 }
 
+// The earlier of two months.
 fn sooner(m: u32, n: u32) -> u32
     ensures { λ r. ⌜ r ≡ min m n ⌝ }
 {
@@ -135,7 +136,7 @@ fn put_differences(out: &mut [u8], at: usize, lines: bool, a: Schedule, b: Sched
 // Puts `=` and both expiries where they differ.
 fn put_expiries(out: &mut [u8], at: usize, lines: bool, a: Schedule, b: Schedule) -> usize
     requires { ⌜ (wellFormed a ≡ true) × (wellFormed b ≡ true) ⌝ }
-    ensures { λ r. ⌜ PutsUpTo 13 (now (out .entry)) (now (out .exit)) at r (expiries (between lines) a b) ⌝ }
+    ensures { λ r. ⌜ PutsUpTo 13 (now (out .entry)) (now (out .exit)) at r (expiryBytes (between lines) a b) ⌝ }
 {
     let first = a.expiry;
     let second = b.expiry;
@@ -209,6 +210,7 @@ pub fn compare_text(x: &[u8], y: &[u8], out: &mut [u8]) -> Writing
     write_comparison(a, b, out)
 }
 
+// A number as a wider one.
 fn wide(x: u8) -> u64
     ensures { λ r. ⌜ r ≡ x ⌝ }
 {

@@ -10,6 +10,7 @@ pub(crate) struct Both {
     pub second: Schedule,
 }
 
+// A text is not read.
 fn refuse(number: u8) -> Both
     ensures { λ r. ⌜ r ≡ notRead number ⌝ }
 {

@@ -9,3 +9,4 @@ pub mod Signs
 pub mod Integers
 pub mod Halves
 pub mod Splitting
+pub mod Unbroken

@@ -29,9 +29,9 @@ MICROS  microseconds of a UTC day\n\
 NANOS   nanoseconds of a smoothed day, which always has 86,400 seconds\n\
 TAI     microseconds from 1972-01-01 00:00:00 TAI\n\
 \n\
-What is no question is answered by ? and what was expected, a refused one by ! and a number,\n\
-and where a list does not read also the place in it; longer gives no place, and compare the\n\
-number alone:\n\
+What is no question is answered by ? and what was expected. A question that is refused is\n\
+answered by ! and a number, and where a list does not read also by the place in it. Of two\n\
+lists no place is given, and compare gives the number alone, without the !. The numbers:\n\
 1 list ends early            4 past month 2400          8 before 1972\n\
 2 byte not allowed there     5 more than 256 leaps      9 no such instant\n\
 3 gap malformed or over 999  6 something after the end  10 expired or not yet known\n\
@@ -129,6 +129,8 @@ A line for each month, from 0 (January 1972) on, at which either list has a leap
 the month, the first list's mark and the second's. A mark is + or -, 0 for no leap, or ? at and after the\n\
 list's expiry. Then, if the expiries differ, = and both. Then how the lists stand to each other: same,\n\
 extends 1 (the first extends the second), extends 2 or contradict.\n\
+One list extends another if it has all its leaps and no other before the other's expiry, and expires no\n\
+earlier; it then gives every answer that the other gives. If a list does not read, its number is printed.\n\
 \n\
 $ leapsec compare '6+6+5?' '6+12+5?'\n\
 12 + 0\n\
@@ -141,7 +143,8 @@ contradict\n",
 fn print_longer() {
     write(
         b"leapsec longer LIST LIST\n\
-Of two lists the one that extends the other, the first if they are the same; !16 if they contradict each other.\n\
+Of two lists the one that extends the other (see leapsec help compare), the first if they are the same.\n\
+!16 if neither does: the lists contradict each other.\n\
 \n\
 $ leapsec longer '6+5?' '6+6+5?'\n\
 6+6+5?\n",

@@ -1,7 +1,7 @@
 -- The test of extension: what each leap of the longer list makes of it, and that it means Extends.
 -- Assumes nothing.
 use mathlib.Core.Path.{_≡_, refl, sym, ap, ap₂, _∙_}
-use mathlib.Core.Bool.{Bool, true, false, false≢true, and-eq-true-iff}
+use mathlib.Core.Bool.{Bool, true, false, false≢true, true≢false, and-eq-true-iff}
 use mathlib.Core.List.{List, [], _∷_}
 use mathlib.Core.Logic.{_↔_}
 use Prim.Native.Nat.{ℕ, zero, suc, _+_, _≤_, _<_}
@@ -16,8 +16,8 @@ use Rattle.schedule.specs.declared.Leap.{Leap}
 use Rattle.schedule.specs.declared.Schedule.{Schedule}
 use Rattle.schedule.specs.Schedule.{noLeap, leapsOf, isExpired, gapsFit, wellFormed}
 use Rattle.schedule.proofs.Cases.{by-bool}
-use Rattle.schedule.proofs.Gaps.{later, before-end, parts}
-use Rattle.schedule.proofs.Expired.{not-expired}
+use Rattle.schedule.proofs.Gaps.{fits-lt, first, later, before-end, parts}
+use Rattle.schedule.proofs.Expired.{is-expired, not-expired}
 use Rattle.schedule.proofs.Formed.{in-use}
 use Rattle.schedule.specs.Extends.{below, Extends, sameSign, sameLeap, sameLeaps, extends}
 
@@ -78,7 +78,7 @@ sign-same : (a : Sign) → sameSign a a ≡ true
 sign-same Positive = refl
 sign-same Negative = refl
 
-leap-path : {a b : Leap} → a .month ≡ b .month → a .sign ≡ b .sign → a ≡ b
+pub leap-path : {a b : Leap} → a .month ≡ b .month → a .sign ≡ b .sign → a ≡ b
 leap-path p q = λ i. record { month = p i; sign = q i }
 
 same-leaps : (xs ys : List Leap) → sameLeaps xs ys ≡ true → xs ≡ ys
@@ -103,6 +103,14 @@ all-below (l ∷ ls) from expiry f =
     let rest = later from l ls expiry f in
     rw (not-expired expiry (l .month) (before-end ls (l .month) expiry rest), all-below ls (l .month) expiry rest)
 
+-- none of the leaps after a month lies below it
+pub below-none : (m from : ℕ) (ls : List Leap) (e : ℕ) → gapsFit from ls e ≡ true → m ≤ from → below m ls ≡ []
+unfolding below
+below-none m from [] e h i = refl
+below-none m from (l ∷ ls) e h i =
+    let g = fits-lt from (l .month) (first from l ls e h) in
+    rw (is-expired m (l .month) (omega arith)) (below-none m (l .month) ls e (later from l ls e h) (omega arith))
+
 -- equal lists extend each other
 pub extends-itself : (s : Schedule) → wellFormed s ≡ true → Extends s s
 extends-itself s w = record { same = all-below (leapsOf s) 0 (s .expiry) (parts s w .gaps); later = omega arith }
@@ -122,3 +130,10 @@ means {a} {b} h = extends-means a b .0 h
 
 pub tests : {a b : Schedule} → Extends a b → extends a b ≡ true
 tests {a} {b} x = extends-means a b .1 x
+
+-- and where it fails
+pub fails : {a b : Schedule} → ¬ Extends a b → extends a b ≡ false
+fails {a} {b} n = by-bool (extends a b) (λ t. absurd (n (means t))) (λ f. f)
+
+pub failed : {a b : Schedule} → extends a b ≡ false → ¬ Extends a b
+failed f x = true≢false (sym (tests x) ∙ f)

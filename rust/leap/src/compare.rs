@@ -17,7 +17,7 @@ const COMPARISON_ROOM: usize = 4629;
 /// `extends 1` (the first extends the second), `extends 2` or `contradict`.
 ///
 /// A list that does not read refuses with its own refusal, the first list's
-/// before the second's.
+/// before the second's; [`Schedule::from_text`] says at which place.
 ///
 /// ```
 /// # use leap::Refusal;

@@ -4,6 +4,7 @@ use native.Mathlib.Omega.{arith}
 use mathlib.Core.Path.{sym, ap, _∙_}
 use Rattle.format.specs.Decimal.{decimal}
 use Rattle.format.proofs.Putting.{few}
+use Rattle.compare.proofs.Bytes.{joined-bytes}
 use Rattle.compare.proofs.TwoTexts.{refused, taken, formed}
 use Rattle.compare.proofs.lines.put_compared.Statement.{statement}
 use Rattle.compare.proofs.lines.put_compared.Tie as tie
@@ -27,7 +28,7 @@ returns-2 c =
     let put-comparison = c .before .before .put-comparison in
     let read-both = c .before .before .before .before .before .before .before .read-both in
     let if1 = c .before .before .before .before .before .before .if1 in
-    few (put-comparison .ensures) (taken _ _ (read-both .ensures) (if1 .left) decimal _) (omega arith)
+    few (put-comparison .ensures) (taken _ _ (read-both .ensures) (if1 .left) decimal _ ∙ joined-bytes _ _ _) (omega arith)
 
 pub put-compared-spec : {M : Type 1} → statement M
 put-compared-spec = tie.close (tie.spec (λ c κs. search needs) (λ c κs. search needs) (λ c κs. search needs) (λ c. search needs) returns put-comparison-requires (λ c. search needs) returns-2)

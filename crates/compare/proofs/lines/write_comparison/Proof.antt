@@ -1,6 +1,7 @@
 -- `compare::lines::write_comparison` meets its contract: the local output has room for every comparison. Assumes nothing.
 use borrow.Author.Needs.{needs}
-use Rattle.format.proofs.Putting.{both}
+use Rattle.format.proofs.Putting.{both, one-put}
+use Rattle.compare.proofs.Bytes.{compared-bytes}
 use Rattle.compare.proofs.Room.{at-most}
 use Rattle.compare.proofs.Held.{all-held, too-short, put-out}
 use Rattle.compare.proofs.lines.write_comparison.Statement.{statement}
@@ -13,7 +14,7 @@ returns c =
     let pre = c .before .before .before .before .before .before .before .before .pre in
     let if1 = c .if1 in
     let p = put-comparison .ensures in
-    too-short (both (p .puts) (put .ensures)) (at-most _ _ (pre .0) (pre .1)) _ (if1 .taken)
+    too-short (one-put (both (p .puts) (put .ensures)) (compared-bytes _ _)) (at-most _ _ (pre .0) (pre .1)) _ (if1 .taken)
 
 slice-aggregate-put-all : tie.Need-slice-aggregate-put-all
 slice-aggregate-put-all c =
@@ -21,7 +22,7 @@ slice-aggregate-put-all c =
     let put = c .before .before .before .before .put in
     let pre = c .before .before .before .before .before .before .before .before .before .before .pre in
     let p = put-comparison .ensures in
-    all-held (both (p .puts) (put .ensures)) (at-most _ _ (pre .0) (pre .1))
+    all-held (one-put (both (p .puts) (put .ensures)) (compared-bytes _ _)) (at-most _ _ (pre .0) (pre .1))
 
 returns-2 : tie.Need-returns-2
 returns-2 c =
@@ -31,7 +32,7 @@ returns-2 c =
     let if1 = c .before .before .before .before .before .if1 in
     let put-all = c .before .before .put-all in
     let p = put-comparison .ensures in
-    put-out (both (p .puts) (put .ensures)) (at-most _ _ (pre .0) (pre .1)) _ (if1 .left) (put-all .ensures)
+    put-out (one-put (both (p .puts) (put .ensures)) (compared-bytes _ _)) (at-most _ _ (pre .0) (pre .1)) _ (if1 .left) (put-all .ensures)
 
 pub write-comparison-spec : {M : Type 1} → statement M
 write-comparison-spec =
