@@ -19,7 +19,7 @@ pub fn put_comparison(out: &mut [u8], at: usize, lines: bool, x: &[u8], y: &[u8]
     compare::lines::put_compared(out, at, lines, a, b)
 }
 
-// Puts the longer of two texts.
+// Puts the longer of two texts, or the refusal.
 fn put_longer_text(out: &mut [u8], at: usize, x: &[u8], y: &[u8]) -> usize
     ensures { λ r. ⌜ PutsUpTo 1028 (now (out .entry)) (now (out .exit)) at r (longerBy (chosen (now (x .entry)) (now (y .entry))) (now (x .entry)) (now (y .entry))) ⌝ }
 {

@@ -7,3 +7,4 @@ mod Unbroken
 mod TwoLists
 pub mod Streams
 pub mod OneLine
+pub mod Worked

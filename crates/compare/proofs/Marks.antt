@@ -1,13 +1,13 @@
--- The marks that leaps give a month: one that is no `0` exactly where there is a leap, and never a `?`.
+-- The marks of a month: what its leaps give is no `0` exactly where there is a leap, and never a `?`; a list's mark is `?` exactly from its expiry on.
 -- Assumes nothing.
 use mathlib.Core.Path.{_≡_, refl, sym, ap, _∙_}
-use mathlib.Core.Bool.{true, false, not, cond}
+use mathlib.Core.Bool.{true, false, not, cond, true≢false}
 use mathlib.Core.List.{List, [], _∷_}
 use mathlib.Core.Logic.{_↔_, _≢_}
 use Prim.Native.Nat.{ℕ, _≤_}
 use lib.Dec.{eqb}
 use native.Mathlib.Omega.{arith}
-use borrow.Author.Tests.{ne-eqb, eqb-false}
+use borrow.Author.Tests.{ne-eqb, eq-eqb, eqb-false}
 use Rattle.format.specs.Ascii.{zeroByte}
 use Rattle.schedule.specs.declared.Sign.{Sign}
 use Rattle.schedule.specs.declared.Sign.the-variants.{Positive, Negative}
@@ -27,6 +27,17 @@ sign-some Negative = refl
 sign-known : (g : Sign) → eqb (signByte g) endByte ≡ false
 sign-known Positive = refl
 sign-known Negative = refl
+
+-- signs are told by their bytes, and none is `0`
+pub sign-told : (g k : Sign) → signByte g ≡ signByte k → g ≡ k
+sign-told Positive Positive e = refl
+sign-told Positive Negative e = absurd (omega arith)
+sign-told Negative Positive e = absurd (omega arith)
+sign-told Negative Negative e = refl
+
+-- a month cannot be marked as a leap and as none
+pub not-both : (g : Sign) {x : ℕ} → x ≡ signByte g → x ≡ zeroByte → ⊥
+not-both g e f = true≢false (sym (eq-eqb (signByte g) zeroByte (sym e ∙ f)) ∙ sign-some g)
 
 -- a month has a leap exactly where the mark is not `0`
 pub leap-marked : (ls : List Leap) (m : ℕ) → hasLeap ls m ≡ not (eqb (leapMark ls m) zeroByte)

@@ -1,4 +1,4 @@
--- What the last line of a comparison says, and which months have a line.
+-- What the last line of a comparison says, what a mark says, and which months have a line.
 -- Assumes nothing.
 use mathlib.Core.Path.{_≡_, refl, sym, ap, _∙_}
 use mathlib.Core.Bool.{Bool, true, false, not, _||_, true≢false, and-eq-true-iff}
@@ -17,13 +17,13 @@ use Rattle.schedule.specs.declared.Schedule.{Schedule}
 use Rattle.schedule.specs.Schedule.{maxLeaps, leapsOf, gapsFit, wellFormed}
 use Rattle.schedule.specs.Extends.{Extends, extends}
 use Rattle.schedule.proofs.Cases.{by-bool}
-use Rattle.schedule.proofs.Expired.{not-expired}
+use Rattle.schedule.proofs.Expired.{not-expired, known-until}
 use Rattle.schedule.proofs.Extension.{extends-itself, means, tests, fails, failed}
 use Rattle.schedule.proofs.Gaps.{later, before-end, parts}
 use Rattle.schedule.proofs.Order.{both-ways}
 use Rattle.text.specs.Bytes.{signByte}
 use Rattle.compare.specs.Compare.{hasLeap, leapMark, mark, hasLine, relationBy, relation, told}
-use Rattle.compare.proofs.Marks.{leap-marked, known-mark, not-unknown}
+use Rattle.compare.proofs.Marks.{leap-marked, none-yet, sign-told, not-both, known-mark, not-unknown}
 
 -- ---- the last line
 
@@ -127,6 +127,64 @@ or-true-iff : (x y : Bool) → ((x || y) ≡ true) ↔ ((x ≡ true) ⊎ (y ≡ 
 or-true-iff true y = (λ e. inl refl, λ e. refl)
 or-true-iff false y = (λ e. inr e, λ e. ⊎-elim (λ z. absurd (true≢false (sym z))) (λ z. z) e)
 
+-- ---- what a mark says
+
+-- one of the leaps is at a month and has a sign
+abbrev pub HasLeapOf : List Leap → ℕ → Sign → Type 0
+HasLeapOf [] m g = ⊥
+HasLeapOf (l ∷ ls) m g = ((l .month ≡ m) × (l .sign ≡ g)) ⊎ HasLeapOf ls m g
+
+is-there : (ls : List Leap) (m : ℕ) (g : Sign) → HasLeapOf ls m g → hasLeap ls m ≡ true
+unfolding hasLeap
+is-there (l ∷ ls) m g (inl e) = rw (eq-eqb (l .month) m (e .0))
+is-there (l ∷ ls) m g (inr h) = or-true-iff (eqb (l .month) m) (hasLeap ls m) .1 (inr (is-there ls m g h))
+
+marked-there : (ls : List Leap) (m : ℕ) (g : Sign) → leapMark ls m ≡ signByte g → HasLeapOf ls m g
+unfolding leapMark
+marked-there [] m g e = absurd (not-both g e refl)
+marked-there (l ∷ ls) m g e =
+    by-bool (eqb (l .month) m) (λ t. inl (eqb-true (l .month) m t, sign-told (l .sign) g (rw t at e))) (λ f. inr (marked-there ls m g (rw f at e)))
+
+there-marked : (ls : List Leap) (from e m : ℕ) (g : Sign) → gapsFit from ls e ≡ true → HasLeapOf ls m g → leapMark ls m ≡ signByte g
+unfolding leapMark
+there-marked (l ∷ ls) from e m g f (inl p) = rw (eq-eqb (l .month) m (p .0)) (ap signByte (p .1))
+there-marked (l ∷ ls) from e m g f (inr h) =
+    let more = later from l ls e f in
+    let rest = there-marked ls (l .month) e m g more h in
+    by-bool (eqb (l .month) m) (λ t. absurd (not-both g rest (none-yet ls (l .month) e m more (omega (arith, eqb-true (l .month) m t))))) (λ n. rw n rest)
+
+-- a month without a leap is marked `0`
+no-leap : (ls : List Leap) (m : ℕ) → hasLeap ls m ≡ false → leapMark ls m ≡ zeroByte
+unfolding hasLeap leapMark
+no-leap [] m h = refl
+no-leap (l ∷ ls) m h =
+    by-bool (eqb (l .month) m) (λ t. absurd (true≢false (sym (rw t refl) ∙ h))) (λ f. rw f (no-leap ls m (rw f at h)))
+
+-- the mark of a well-formed list is a sign's byte exactly where it has a leap of that sign
+sign-exactly : (s : Schedule) (m : ℕ) (g : Sign) → wellFormed s ≡ true → (mark s m ≡ signByte g) ↔ HasLeapOf (leapsOf s) m g
+sign-exactly s m g w = (
+  λ e. marked-there (leapsOf s) m g (sym (known-mark s m (not-unknown s m (λ z. leap-known (sign-leap g) (sym e ∙ z)))) ∙ e),
+  λ h.
+      known-mark s m (not-expired (s .expiry) m (early (leapsOf s) 0 (s .expiry) m (parts s w .gaps) (is-there (leapsOf s) m g h)))
+      ∙ there-marked (leapsOf s) 0 (s .expiry) m g (parts s w .gaps) h,
+)
+
+-- the mark of a well-formed list is `+` exactly where it has a positive leap at that month, and `-` exactly where it has a negative one
+pub plus-exactly : (s : Schedule) (m : ℕ) → wellFormed s ≡ true → (mark s m ≡ 43) ↔ HasLeapOf (leapsOf s) m Positive
+plus-exactly s m w = sign-exactly s m Positive w
+
+pub minus-exactly : (s : Schedule) (m : ℕ) → wellFormed s ≡ true → (mark s m ≡ 45) ↔ HasLeapOf (leapsOf s) m Negative
+minus-exactly s m w = sign-exactly s m Negative w
+
+-- and `0` exactly where it is known before the expiry that there is no leap
+pub none-exactly : (s : Schedule) (m : ℕ) → (mark s m ≡ 48) ↔ ((m < s .expiry) × (hasLeap (leapsOf s) m ≡ false))
+none-exactly s m = (
+  λ e.
+      let f = not-unknown s m (λ z. omega (arith, e, z)) in
+      (known-until (s .expiry) m f, leap-marked (leapsOf s) m ∙ ap not (eq-eqb (leapMark (leapsOf s) m) zeroByte (sym (known-mark s m f) ∙ e))),
+  λ p. known-mark s m (not-expired (s .expiry) m (p .0)) ∙ no-leap (leapsOf s) m (p .1),
+)
+
 module _ (a b : Schedule) (m : ℕ) where
   -- the test of a line, in its parts
   test-parts : (hasLine a b m ≡ true) ↔ (((hasLeap (leapsOf a) m ≡ true) ⊎ (hasLeap (leapsOf b) m ≡ true)) × (mark a m ≢ mark b m))
@@ -153,7 +211,7 @@ module _ (a b : Schedule) (m : ℕ) where
     ),
   )
 
-  -- such a month is before 2400
+  -- such a month is at most 2400
   pub line-early : wellFormed a ≡ true → wellFormed b ≡ true → hasLine a b m ≡ true → m < 2401
   line-early w w′ t =
       ⊎-elim (λ (h : hasLeap (leapsOf a) m ≡ true). omega (arith, early (leapsOf a) 0 (a .expiry) m (parts a w .gaps) h, parts a w .end))

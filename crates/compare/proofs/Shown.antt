@@ -77,12 +77,13 @@ under (relate p q) = q
 
 -- ---- the lines of the months
 
-record Standing (a b : Schedule) (m n : ℕ) (l : Line) : Type 0 where
-  month : ℕ
-  from : m ≤ month
-  to : month < m + n
-  stands : hasLine a b month ≡ true
-  is : l ≡ differ month (mark a month) (mark b month)
+-- a line that is that of one of n months from month m on
+pub record Standing (a b : Schedule) (m n : ℕ) (l : Line) : Type 0 where
+  pub month : ℕ
+  pub from : m ≤ month
+  pub to : month < m + n
+  pub stands : hasLine a b month ≡ true
+  pub is : l ≡ differ month (mark a month) (mark b month)
 
 in-month : (a b : Schedule) (m : ℕ) (l : Line) → In l (lineAt a b m) → (hasLine a b m ≡ true) × (l ≡ differ m (mark a m) (mark b m))
 unfolding lineAt
@@ -127,7 +128,8 @@ unfolding expiryLines
 expiries-in a b n = rw (ne-eqb (a .expiry) (b .expiry) n) (inl refl)
 
 module _ (a b : Schedule) where
-  in-lines : (l : Line) → In l (linesOf a b) → Standing a b 0 2401 l ⊎ (((a .expiry ≢ b .expiry) × (l ≡ expire (a .expiry) (b .expiry))) ⊎ (l ≡ relation a b))
+  -- no other lines stand
+  pub in-lines : (l : Line) → In l (linesOf a b) → Standing a b 0 2401 l ⊎ (((a .expiry ≢ b .expiry) × (l ≡ expire (a .expiry) (b .expiry))) ⊎ (l ≡ relation a b))
   unfolding linesOf
   in-lines l h =
       ⊎-elim (λ (p : In l (monthLines a b 0 2401)). inl (in-months a b 0 2401 l p))

@@ -8,9 +8,6 @@ use native.Mathlib.Decide.{decLt}
 use native.Mathlib.Omega.{arith}
 use lib.Dec.{eqb}
 use borrow.Author.Tests.{eq-eqb, ne-eqb, eqb-true}
-use Rattle.format.specs.Ascii.{zeroByte}
-use Rattle.schedule.specs.declared.Sign.{Sign}
-use Rattle.schedule.specs.declared.Sign.the-variants.{Positive, Negative}
 use Rattle.schedule.specs.declared.Leap.{Leap}
 use Rattle.schedule.specs.declared.Schedule.{Schedule}
 use Rattle.schedule.specs.Schedule.{leapsOf, isExpired, gapsFit, wellFormed}
@@ -21,7 +18,7 @@ use Rattle.schedule.proofs.Extension.{leap-path, below-none}
 use Rattle.schedule.proofs.Gaps.{later, before-end, parts}
 use Rattle.text.specs.Bytes.{signByte}
 use Rattle.compare.specs.Compare.{leapMark}
-use Rattle.compare.proofs.Marks.{sign-some, none-yet}
+use Rattle.compare.proofs.Marks.{none-yet, sign-told, not-both}
 
 -- ---- the leaps below an expiry
 
@@ -36,12 +33,6 @@ below-marks e (l ∷ ls) m f =
 
 -- ---- leaps with the same marks
 
-sign-told : (g k : Sign) → signByte g ≡ signByte k → g ≡ k
-sign-told Positive Positive e = refl
-sign-told Positive Negative e = absurd (omega arith)
-sign-told Negative Positive e = absurd (omega arith)
-sign-told Negative Negative e = refl
-
 -- the mark of the first leap's month, and of another
 at-leap : (l : Leap) (ls : List Leap) (m : ℕ) → l .month ≡ m → leapMark (l ∷ ls) m ≡ signByte (l .sign)
 unfolding leapMark
@@ -50,10 +41,6 @@ at-leap l ls m e = rw (eq-eqb (l .month) m e)
 off-leap : (l : Leap) (ls : List Leap) (m : ℕ) → (l .month ≡ m → ⊥) → leapMark (l ∷ ls) m ≡ leapMark ls m
 unfolding leapMark
 off-leap l ls m n = rw (ne-eqb (l .month) m n)
-
--- a month cannot be marked as a leap and as none
-not-both : (g : Sign) {x : ℕ} → x ≡ signByte g → x ≡ zeroByte → ⊥
-not-both g e f = true≢false (sym (eq-eqb (signByte g) zeroByte (sym e ∙ f)) ∙ sign-some g)
 
 -- the marks of the months that are known, under both lists of leaps
 abbrev Alike : ℕ → List Leap → List Leap → Type 0

@@ -58,6 +58,8 @@ table =
     ∷ answers "5?" "5?" 5 0 5
     ∷ answers "6+6+5?" "6+12+5?" 33 0 33
     -- the program: lines with LF between them, or `; `; of a refusal the number alone
+    ∷ prints true "6+6+5?" "6+12+5?" "12 + 0\n18 ? +\n= 17 23\ncontradict"
+    ∷ prints false "6+6+5?" "6+12+5?" "12 + 0; 18 ? +; = 17 23; contradict"
     ∷ prints true "6?" "6+5?" "6 ? +\n= 6 11\nextends 2"
     ∷ prints false "6?" "6+5?" "6 ? +; = 6 11; extends 2"
     ∷ prints true "06+5?" "5" "3"
@@ -74,4 +76,4 @@ table =
 -- every row of the table holds of the definitions
 pub worked : SayAll table
 unfolding readText readFrom byReading fitting fitted compared inLines joined linesOf monthLines lineAt hasLeap leapMark isExpired expiryLines relationBy between decimal digitsIn below sameLeaps chosenOf
-worked = (refl, (refl, (refl, (refl, (refl, (refl, (refl, (refl, (refl, (refl, (refl, (refl, (refl, (refl, (refl, (refl, (refl, (refl, (refl, (refl, (refl, (refl, (refl, tt)))))))))))))))))))))))
+worked = (refl, (refl, (refl, (refl, (refl, (refl, (refl, (refl, (refl, (refl, (refl, (refl, (refl, (refl, (refl, (refl, (refl, (refl, (refl, (refl, (refl, (refl, (refl, (refl, (refl, tt)))))))))))))))))))))))))

@@ -12,6 +12,7 @@ ghost use Rattle.compare.specs.Compare.{isUnknown, relationBy, compared,
 ghost use Rattle.compare.specs.Inner.{firstMonth, leapsFrom, markOfLeap, markFrom, markLine, differences, expiryBytes, comparison};
 use crate::texts::read_both;
 use format::decimal::put_decimal;
+use format::decimal::wide;
 use format::lines::put_between;
 use format::output::put;
 use format::output::put_all;
@@ -208,13 +209,6 @@ pub fn compare_text(x: &[u8], y: &[u8], out: &mut [u8]) -> Writing
     let a = lists.first;
     let b = lists.second;
     write_comparison(a, b, out)
-}
-
-// A number as a wider one.
-fn wide(x: u8) -> u64
-    ensures { λ r. ⌜ r ≡ x ⌝ }
-{
-    x as u64
 }
 
 // Puts the comparison of two text lists, LF between its lines or `; `; of a refusal the number alone.

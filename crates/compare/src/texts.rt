@@ -10,7 +10,7 @@ pub(crate) struct Both {
     pub second: Schedule,
 }
 
-// A text is not read.
+// The number of a text that is not read, and two blank schedules.
 fn refuse(number: u8) -> Both
     ensures { λ r. ⌜ r ≡ notRead number ⌝ }
 {

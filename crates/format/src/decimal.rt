@@ -87,6 +87,13 @@ pub(crate) fn is_digit(b: u8) -> bool
     within(b'0', b'9', b)
 }
 
+// A byte as a wider number.
+pub fn wide(x: u8) -> u64
+    ensures { λ r. ⌜ r ≡ x ⌝ }
+{
+    x as u64
+}
+
 // What a digit stands for.
 fn digit_of(b: u8) -> u64
     requires { ⌜ isDigit b ≡ true ⌝ }

@@ -9,7 +9,7 @@ use Rattle.schedule.specs.declared.Schedule.{Schedule}
 use Rattle.schedule.specs.Schedule.{wellFormed}
 use Rattle.schedule.specs.Extends.{Extends, extends}
 use Rattle.schedule.proofs.Cases.{by-bool}
-use Rattle.schedule.proofs.Extension.{means, tests}
+use Rattle.schedule.proofs.Extension.{means, tests, fails}
 use Rattle.clock.specs.Question.{given}
 use Rattle.clock.specs.Answers.{HandsValue}
 use Rattle.clock.proofs.Checks.{given-is}
@@ -45,4 +45,11 @@ module _ (longer shorter : Schedule) where
             by-bool (extends longer shorter) (λ t. means t)
             (λ f. let z : yesOf (extends longer shorter) ≡ 1 = given-is (sym yes ∙ e) in absurd (omega (arith, rw f at z))),
         λ x. yes ∙ rw (tests x),
+      )
+
+      -- and 0 exactly where it does not
+      pub no-means : (extension longer shorter ≡ given 0) ↔ (¬ Extends longer shorter)
+      no-means = (
+        λ e x. let z : _≡_ {A = ℕ} 1 0 = sym (ap yesOf (tests x)) ∙ given-is (sym yes ∙ e) in omega arith,
+        λ n. yes ∙ rw (fails n),
       )

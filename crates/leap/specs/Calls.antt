@@ -20,7 +20,7 @@ pub record HandsBytes (w : Writing) (bytes : List ℕ) (number count : ℕ) (aft
   pub its-count : count ≡ w .count
   pub its-bytes : after ≡ bytes
 
--- so by a writer whose list of a schedule is `list`, of the output that held `before`
+-- what a writer hands over: the answer and the output of writing `list`, the list of a schedule, to an output that held `before`
 abbrev pub HandsWriting : Schedule → List ℕ → List ℕ → ℕ → ℕ → List ℕ → Type 0
 HandsWriting s list before number count after = HandsBytes (writing s list (length before)) (written s list before) number count after
 

@@ -129,8 +129,9 @@ A line for each month, from 0 (January 1972) on, at which either list has a leap
 the month, the first list's mark and the second's. A mark is + or -, 0 for no leap, or ? at and after the\n\
 list's expiry. Then, if the expiries differ, = and both. Then how the lists stand to each other: same,\n\
 extends 1 (the first extends the second), extends 2 or contradict.\n\
-One list extends another if it has all its leaps and no other before the other's expiry, and expires no\n\
-earlier; it then gives every answer that the other gives. If a list does not read, its number is printed.\n\
+One list extends another if its leaps before the other's expiry are exactly the other's leaps, and it\n\
+expires no earlier; it then gives every answer that the other gives. Where a list does not read, the\n\
+number of its refusal is printed.\n\
 \n\
 $ leapsec compare '6+6+5?' '6+12+5?'\n\
 12 + 0\n\
@@ -144,7 +145,7 @@ fn print_longer() {
     write(
         b"leapsec longer LIST LIST\n\
 Of two lists the one that extends the other (see leapsec help compare), the first if they are the same.\n\
-!16 if neither does: the lists contradict each other.\n\
+!16 if neither does: the lists contradict each other. Where a list does not read, ! and its number.\n\
 \n\
 $ leapsec longer '6+5?' '6+6+5?'\n\
 6+6+5?\n",

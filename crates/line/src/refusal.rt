@@ -1,15 +1,9 @@
 // Refusals as an answer has them.
-ghost use mathlib.Core.Path.{_≡_};
 ghost use Rattle.format.specs.Output.{PutsUpTo};
 ghost use Rattle.line.specs.Refusal.{refusal, refusalAt};
 use format::decimal::put_decimal;
+use format::decimal::wide;
 use format::output::put;
-
-fn wide(x: u8) -> u64
-    ensures { λ r. ⌜ r ≡ x ⌝ }
-{
-    x as u64
-}
 
 // Puts a refusal.
 pub fn put_refusal(out: &mut [u8], at: usize, number: u8) -> usize

@@ -9,3 +9,4 @@ pub mod Places
 pub mod Back
 pub mod Spelling
 pub mod Room
+pub mod Numbers

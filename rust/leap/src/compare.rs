@@ -40,7 +40,8 @@ pub fn compare(first: &[u8], second: &[u8]) -> Result<String, Refusal> {
 /// given slice itself, and the first if they are the same.
 ///
 /// A list that does not read refuses with its own refusal, the first list's
-/// before the second's.
+/// before the second's; then lists of which neither extends the other with
+/// [`Refusal::Contradiction`].
 ///
 /// ```
 /// # use leap::Refusal;
@@ -57,8 +58,9 @@ pub fn longer<'a>(first: &'a [u8], second: &'a [u8]) -> Result<&'a [u8], Refusal
 
 impl Schedule {
     /// Whether this schedule extends a shorter one: its leaps below that one's
-    /// expiry month are all of that one's leaps, and it expires no earlier. It
-    /// may then replace that one, since it keeps every answer.
+    /// expiry month are all of that one's leaps, equal in month and sign, and it
+    /// expires no earlier. It may then replace that one, since it keeps every
+    /// answer. Refuses with [`Refusal::NotWellFormed`] unless both are well formed.
     ///
     /// ```
     /// # use leap::{Refusal, Schedule};
@@ -75,6 +77,6 @@ impl Schedule {
     pub fn extends(&self, shorter: &Schedule) -> Result<bool, Refusal> {
         let mut yes = 0;
         answer(ffi::extends(self.words(), shorter.words(), &mut yes))?;
-        Ok(yes != 0)
+        Ok(yes == 1)
     }
 }
