@@ -45,6 +45,7 @@ pub data Line : Type 0 where
 abbrev pub hasLine : Schedule → Schedule → ℕ → Bool
 hasLine a b m = (hasLeap (leapsOf a) m || hasLeap (leapsOf b) m) && not (eqb (mark a m) (mark b m))
 
+-- its line, if it has one
 unfoldable pub lineAt : Schedule → Schedule → ℕ → List Line
 lineAt a b m = cond (hasLine a b m) (differ m (mark a m) (mark b m) ∷ []) []
 
@@ -65,6 +66,7 @@ relation a b = relate (extends a b) (extends b a)
 unfoldable pub linesOf : Schedule → Schedule → List Line
 linesOf a b = monthLines a b 0 (lastMonth + 1) ++ (expiryLines a b ++ (relation a b ∷ []))
 
+-- how two lists stand to each other, in words
 unfoldable pub relationBy : Bool → Bool → List ℕ
 relationBy true true = ascii "same"
 relationBy true false = ascii "extends 1"

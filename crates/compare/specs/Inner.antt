@@ -17,7 +17,7 @@ use Rattle.compare.specs.declared.texts.Both.{Both}
 use Rattle.compare.specs.Longer.{aboutBoth}
 use Rattle.compare.specs.Compare.{isUnknown, mark, hasLine, relationBy}
 
--- a text that is not read
+-- a text is not read: its number, and two blank schedules
 abbrev pub notRead : ℕ → Both
 notRead n = record { number = n; first = blankSchedule; second = blankSchedule }
 
