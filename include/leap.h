@@ -13,12 +13,12 @@
  *         assert(nanos == UINT64_C(86399001000000));
  *
  * A call returns LEAP_OK (0) with an answer, or the number of a refusal, and
- * sets every output. On a refusal the numbers asked for are 0, a schedule is
- * blank (all 514 words 0), a part has no bytes, and a writer's buffer is left as
- * it was; a reader's *place is where it stopped, and 0 if the list is taken. A
- * call whose name ends in _many returns a count instead, puts what one call would
- * return into its array `numbers`, and sets the elements of each output below
- * that count.
+ * sets every output. On a refusal the numbers asked for are 0, a schedule that is
+ * read is blank (all 514 words 0), a part has no bytes, and a writer's buffer and
+ * the two schedules of a replay are left as they were; a reader's *place is where
+ * it stopped, and 0 if the list is taken. A call whose name ends in _many returns
+ * a count instead, puts what one call would return into its array `numbers`, and
+ * sets the elements of each output below that count.
  *
  * No pointer may be null. An empty input or output may be given as any pointer
  * that isn't null, with length 0. Pointers must be aligned for their type. An
@@ -44,19 +44,23 @@ enum {
     LEAP_PAST_LAST_MONTH = 4,  /* past month 2400, January 2172 */
     LEAP_TOO_MANY_LEAPS = 5,   /* more than 256 leaps */
     LEAP_AFTER_END = 6,        /* something after the end */
-    LEAP_OUTPUT_SHORT = 7,     /* output shorter than the list or comparison */
+    LEAP_OUTPUT_SHORT = 7,     /* output shorter than the list, the comparison or
+                                  what a line of a trace may print */
     LEAP_BEFORE_1972 = 8,      /* MJD under 41317, or TAI under 10,000,000 */
     LEAP_NO_INSTANT = 9,       /* no such instant */
     LEAP_NOT_KNOWN = 10,       /* expired or not yet known */
     LEAP_NOT_WELL_FORMED = 11, /* the schedule is not well formed */
-    LEAP_CONTRADICTION = 16    /* two lists contradict each other */
+    LEAP_CONTRADICTION = 16,   /* two lists contradict each other */
+    LEAP_NO_LINE = 20          /* no line of a trace (printed, returned by no call) */
 };
 
 enum {
     LEAP_MAX_LEAPS = 256,
     LEAP_TEXT_ROOM = 752,        /* bytes that hold any list as text */
     LEAP_NYBBLES_ROOM = 390,     /* bytes that hold any list as nybbles */
-    LEAP_COMPARISON_ROOM = 4629  /* bytes that hold any comparison */
+    LEAP_COMPARISON_ROOM = 4629, /* bytes that hold any comparison */
+    LEAP_REPLAY_ROOM = 22,       /* bytes that hold what any line of a trace prints */
+    LEAP_REPLAY_HELD = 4097      /* bytes to keep, at most, of a line that is not complete */
 };
 
 /* A leap second at the end of the day before a month starts. Month 0 is
@@ -249,6 +253,73 @@ uint64_t leap_uts_to_utc_many(const leap_schedule *s,
                               const uint64_t *nanos, size_t nanos_length,
                               uint8_t *numbers, size_t numbers_length,
                               uint64_t *micros, size_t micros_length);
+
+/* A trace is what a branch did in a day, a line for each thing done. A line is
+ * ended by a newline, and is one of
+ *
+ *     L 6+5?               use this text list, all that follows the space
+ *     S                    store the current list
+ *     Z                    reset: back to the stored list
+ *     Q 41498 86400000000  smoothed time: the UTS of a UTC instant
+ *
+ * with exactly one space between the fields. Both numbers of a Q are decimal, of
+ * 1 to 18 digits, and may start with zeros. A Q prints the MJD and the UTS
+ * nanoseconds, here "41498 86399001000000", with no leading zeros, or "!" and the
+ * number that leap_utc_to_uts refuses with under the current list. An L whose
+ * list does not read prints "!" and its number (1, 2, 3, 4, 5 or 6) and keeps the
+ * current list; any other L, an S and a Z print nothing. What is none of these
+ * lines prints "!20" and changes nothing: an empty line too, one of more than
+ * 4,096 bytes before its newline, one with a carriage return or a further space
+ * at its end, and what stands after the last newline. (In an L such an end is a
+ * part of the list.) Each thing printed is one line, ended by a newline, and no 0
+ * follows. */
+
+/* Replays the complete lines of a piece of a trace, one after the other, as long
+ * as LEAP_REPLAY_ROOM bytes of the output are left: *used is how many bytes of the
+ * trace they are, newlines included, and *written how many bytes they printed, at
+ * the start of the `room` bytes at out; bytes beyond that stay. A piece without a
+ * complete line is no refusal: *used is then 0. What is not used is the caller's
+ * to hand in again, before the bytes that come next; of a line that is not
+ * complete its first LEAP_REPLAY_HELD bytes are enough, since it is too long then.
+ *
+ * *current and *stored are all that a day's replay remembers, and both are blank
+ * (all words 0) at its start. Words of any value may be given: an S or a Z copies
+ * them as they are, and under words that are not well formed, as blank ones
+ * aren't, every Q prints "!11". A trace may be cut at any newline and go on later
+ * from the two schedules. So with fixed buffers, a trace of any length:
+ *
+ *     static leap_schedule current, stored;
+ *     static uint8_t trace[LEAP_REPLAY_HELD + 4096], out[4096];
+ *     uint64_t used, written;
+ *     size_t start, held = 0, got;
+ *     while ((got = fread(trace + held, 1, sizeof trace - held, stdin)) > 0) {
+ *         start = 0, held += got;
+ *         do {
+ *             leap_replay(&current, &stored, trace + start, held - start,
+ *                         out, sizeof out, &used, &written);
+ *             fwrite(out, 1, written, stdout);
+ *             start += used;
+ *         } while (used > 0);
+ *         held -= start;
+ *         if (held > LEAP_REPLAY_HELD)
+ *             held = LEAP_REPLAY_HELD;
+ *         memmove(trace, trace + start, held);
+ *     }
+ *     leap_replay_end(trace, held, out, sizeof out, &written);
+ *     fwrite(out, 1, written, stdout);
+ *
+ * Refuses with 7 if room is less than LEAP_REPLAY_ROOM, whatever the trace is:
+ * *used and *written are then 0, and *current, *stored and out stay. */
+uint8_t leap_replay(leap_schedule *current, leap_schedule *stored,
+                    const uint8_t *trace, size_t length,
+                    uint8_t *out, size_t room, uint64_t *used, uint64_t *written);
+
+/* Writes what the end of a trace prints, `left` being what stands after its last
+ * newline: nothing if that is empty, else "!20" and a newline, since it is a line
+ * that lacks its own. The length is *written; bytes beyond that stay. Refuses with
+ * 7 if room is less than that. */
+uint8_t leap_replay_end(const uint8_t *left, size_t length,
+                        uint8_t *out, size_t room, uint64_t *written);
 
 #ifdef __cplusplus
 }

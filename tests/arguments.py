@@ -11,7 +11,7 @@ import sys
 
 from lines import LONGEST, Lines, USAGE, expected
 
-WORDS = b"show, nybbles, text, dtai, tai, utc, uts, unsmooth, compare, longer, ask or help\n"
+WORDS = b"show, nybbles, text, dtai, tai, utc, uts, unsmooth, compare, longer, ask, replay or help\n"
 UNKNOWN = b"? expected: " + WORDS
 NO_HELP = b"? expected: help WORD, WORD being " + WORDS
 TOO_LONG = expected(b"0" * (LONGEST + 1)) + b"\n"
@@ -30,8 +30,11 @@ NUMBERS = {
     10: "expired or not yet known",
     11: "schedule not well formed",
     16: "two lists contradict each other",
+    20: "no line of a trace",
 }
-NOT_GIVEN = (7, 11)  # by the program: there is room for every answer, and every list that is read is well formed
+NOT_GIVEN = (7,)  # by the program: there is room for every answer
+# the one schedule that is not well formed and that the program can have is the blank one, at the start of a trace
+IN_HELP = NUMBERS | {11: "no list is known yet, in a trace"}
 
 
 def printed(leapsec, *words, data=b""):
@@ -44,7 +47,7 @@ def printed(leapsec, *words, data=b""):
 
 def questions(leapsec, second, lines):
     """Question lines as arguments."""
-    asked = [line for line in lines if b"\0" not in line and line.split(b" ")[0] not in (b"ask", b"help")]
+    asked = [line for line in lines if b"\0" not in line and line.split(b" ")[0] not in (b"ask", b"replay", b"help")]
     chosen = asked[:400] + [line for line in asked if len(line) > 8000]
     unknown = 0
     for line in chosen:
@@ -92,6 +95,14 @@ def single(leapsec):
         (["ask", "x"], b"? expected: ask\n"),
         (["ask", ""], b"? expected: ask\n"),
         (["ask", "x" * 100_000], b"? expected: ask\n"),
+        (["replay"], b""),
+        (["replay", "x"], b"? expected: replay\n"),
+        (["replay", ""], b"? expected: replay\n"),
+        (["replay", "L 6+5?"], b"? expected: replay\n"),
+        (["replay", "x" * 100_000], b"? expected: replay\n"),
+        (["replay L 6+5?"], b"? expected: replay\n"),
+        (["replays"], UNKNOWN),
+        (["repl", "ay"], UNKNOWN),
         (["dtai", "5?", "0" * (LONGEST - 5 - len("dtai 5? ")) + "41317"], b"10\n"),
         (["dtai", "5?", "0" * (LONGEST - 4 - len("dtai 5? ")) + "41317"], TOO_LONG),
         (["show", "x" * 100_000], TOO_LONG),
@@ -110,17 +121,19 @@ def helps(leapsec):
     text = printed(leapsec, "help")
     if printed(leapsec) != text or not text:
         sys.exit("FAILED without arguments leapsec does not print its help")
-    for word in USAGE:
-        usage = printed(leapsec, word).removeprefix(b"? expected: ")
+    words = [*USAGE, b"ask", b"replay"]
+    for word in words:
+        # a word that stands alone is shown what it expects by another word behind it
+        usage = printed(leapsec, word, *[] if word in USAGE else ["x"]).removeprefix(b"? expected: ")
         head = b"leapsec " + usage
         if printed(leapsec, "help", word).split(b"\n")[0] + b"\n" != head:
             sys.exit(f"FAILED help {word.decode()} does not start with {head!r}")
         if not re.search(rb"^" + re.escape(head.rstrip()) + rb"  ", text, re.MULTILINE):
             sys.exit(f"FAILED help has no line for {head!r}")
-    print(f"ok the help of {len(USAGE)} words starts as what was expected of them")
+    print(f"ok the help of {len(words)} words starts as what was expected of them")
     rows = itertools.takewhile(lambda row: row[:1].isdigit(), reversed(text.decode().splitlines()))
     numbers = dict(cell.split(" ", 1) for row in rows for cell in re.split(" {2,}", row))
-    if numbers != {str(n): meaning.partition(":")[0] for n, meaning in NUMBERS.items() if n not in NOT_GIVEN}:
+    if numbers != {str(n): meaning.partition(":")[0] for n, meaning in IN_HELP.items() if n not in NOT_GIVEN}:
         sys.exit(f"FAILED the numbers in help: {numbers}")
     print(f"ok the {len(numbers)} numbers in help are those of 01 and 02")
     for words in [["foo"], [""], ["show", "x"], ["show", ""], ["", "show"], ["show\n"], ["x" * 100_000]]:

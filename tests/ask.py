@@ -6,19 +6,13 @@ An answer or a refusal to a line of tests/lines.py must be equal in both program
 leapsec then expects must be how the line's word goes.
 """
 import collections
-import os
-import pathlib
-import pty
 import re
 import select
-import signal
 import subprocess
 import sys
-import threading
-import time
-import tty
 
 from lines import CURRENT, LONGEST, Lines, WORDS, expected
+from streams import in_pieces, read_failures, write_failures
 
 
 def answers(program, data):
@@ -185,24 +179,13 @@ def long_lines(leapsec):
     print("ok lines of up to a million bytes, alone and between others, with LF and without")
 
 
-def feed(pipe, data, size):
-    """Writes bytes to a pipe, that many at a time, and closes it."""
-    for start in range(0, len(data), size):
-        pipe.write(data[start : start + size])
-    pipe.close()
-
-
 def pieces(leapsec, lines, found):
     """The input may come in pieces of any size."""
     data = b"".join(line + b"\n" for line in lines)
     for size in (1, 7, 8192, 65_536):
         part = data[: 2000 * size if size < 100 else len(data)]
         part = part[: part.rfind(b"\n") + 1]
-        with subprocess.Popen([leapsec, "ask"], stdin=subprocess.PIPE, stdout=subprocess.PIPE, bufsize=0) as run:
-            feeder = threading.Thread(target=feed, args=(run.stdin, part, size))
-            feeder.start()
-            got = run.stdout.read().split(b"\n")[:-1]
-            feeder.join()
+        got = in_pieces([leapsec, "ask"], part, size).split(b"\n")[:-1]
         if not got or got != found[: part.count(b"\n")]:
             sys.exit(f"FAILED the answers to pieces of {size} bytes differ")
     print("ok the same answers where the input comes in pieces of 1, 7, 8192 and 65536 bytes")
@@ -220,63 +203,6 @@ def waits(leapsec):
     print(f"ok a question is answered before the next is asked, {6667 * len(days)} times in one run")
 
 
-def write_failures(leapsec):
-    """Where writing fails, that is said once, and the program ends. A pipe that is closed ends it without a word, unless SIGPIPE is ignored."""
-    data = b"show current\n" * 100_000
-    with open("/dev/full", "wb") as full:
-        run = subprocess.run([leapsec, "ask"], input=data, stdout=full, stderr=subprocess.PIPE, timeout=60)
-    if run.stderr != b"leapsec: standard output: No space left on device\n":
-        sys.exit(f"FAILED of an output that is full ask says {run.stderr!r}")
-    for restored, wanted in [(True, (-signal.SIGPIPE, b"")), (False, (0, b"leapsec: standard output: Broken pipe\n"))]:
-        closed, end = os.pipe()
-        os.close(closed)
-        run = subprocess.run([leapsec, "ask"], input=data, stdout=end, stderr=subprocess.PIPE, timeout=60, restore_signals=restored)
-        os.close(end)
-        if (run.returncode, run.stderr) != wanted:
-            sys.exit(f"FAILED at a closed pipe ask ends with {run.returncode} and says {run.stderr!r}")
-    print("ok a failure to write is said once, and ends the program; at a closed pipe SIGPIPE does, where it is not ignored")
-
-
-def read_failures(leapsec):
-    """Where reading fails, that is said once, and the program ends. Half a line that came before is not answered."""
-
-    def told(run, wanted, error):
-        out, said = run.communicate(timeout=60)
-        if (out, said, run.returncode) != (wanted, b"leapsec: standard input: " + error + b"\n", 0):
-            sys.exit(f"FAILED where reading ends with {error.decode()!r}, ask answers {out!r} and says {said!r}")
-
-    def started(stdin):
-        return subprocess.Popen([leapsec, "ask"], stdin=stdin, stdout=subprocess.PIPE, stderr=subprocess.PIPE)
-
-    folder = os.open("/", os.O_RDONLY)
-    told(started(folder), b"", b"Is a directory")
-    os.close(folder)
-
-    # a pipe that does not block, and is not closed: the second read fails
-    end, start = os.pipe()
-    os.set_blocking(end, False)
-    os.write(start, b"text f4\ndtai 5? 41317")
-    told(started(end), b"5?\n", b"Resource temporarily unavailable")
-    os.close(start)
-    os.close(end)
-
-    # a terminal that is closed at the other end, while the program waits in its second read
-    master, slave = pty.openpty()
-    tty.setraw(slave)
-    os.write(master, b"text f4\ndtai 5? 41317")
-    run = started(slave)
-    os.close(slave)
-    if not select.select([run.stdout], [], [], 10)[0]:
-        sys.exit("FAILED a line from a terminal is not answered")
-    for _ in range(1000):
-        if pathlib.Path(f"/proc/{run.pid}/stat").read_text().rsplit(")", 1)[1].split()[0] in "SZ":
-            break
-        time.sleep(0.01)
-    os.close(master)
-    told(run, b"5?\n", b"Input/output error")
-    print("ok a failure to read is said once, and ends the program; half a line before it is not answered")
-
-
 def main():
     leapsec, second = sys.argv[1:3]
     count, seed = [int(n) for n in sys.argv[3:5]] or [100_000, 20260701]
@@ -288,8 +214,8 @@ def main():
     long_lines(leapsec)
     pieces(leapsec, lines, found)
     waits(leapsec)
-    write_failures(leapsec)
-    read_failures(leapsec)
+    write_failures([leapsec, "ask"], b"show current\n" * 100_000)
+    read_failures([leapsec, "ask"], b"text f4\ndtai 5? 41317", b"5?\n")
 
 
 main()

@@ -1,6 +1,7 @@
 #!/usr/bin/env bash
-# The header and the archive from C: the header alone, its example, what the
-# archive holds, every call on good and bad input, and the stack that each uses.
+# The header and the archive from C: the header alone, its example and its loop,
+# what the archive holds, every call on good and bad input, and the stack that
+# each uses.
 source "$(dirname "${BASH_SOURCE[0]}")/common.bash"
 
 alone() {
@@ -26,6 +27,36 @@ quietly "the header's example does not compile" gcc -std=c99 "${strict[@]}" \
 quietly "the header's example" "$built/example"
 ok "header: its example"
 
+# The loop of leap_replay stands in its comment, indented by five. Through it goes a trace that is longer than its buffers, with a line of
+# 100,000 bytes in it and half a line at its end; each question is the one of 12/14.
+{
+    printf '#include <stdio.h>\n#include <string.h>\n#include "leap.h"\nint main(void)\n{\n'
+    sed -n '/fixed buffers, a trace of any length/,/^uint8_t leap_replay(/s/^ \*     //p' "$root/include/leap.h"
+    printf 'return 0;\n}\n'
+} >"$built/loop.c"
+grep -q 'leap_replay_end(' "$built/loop.c" || fail "the header has no loop of leap_replay"
+quietly "the header's loop does not compile" gcc -std=c99 "${strict[@]}" -g -fsanitize=address,undefined \
+    "$built/loop.c" "$LEAP_LIB_DIR/libleap.a" -o "$built/loop"
+# some COUNT LINE: that line, that often
+some() {
+    awk -v count="$1" -v line="$2" 'BEGIN { while (count-- > 0) print line }'
+}
+{
+    echo 'L 6+5?'
+    some 3000 'Q 41498 86400000000'
+    some 100000 x | tr -d '\n'
+    echo
+    some 3000 'Q 41498 86400000000'
+    printf 'Q 41498 864'
+} | "$built/loop" >"$log"
+{
+    some 3000 '41498 86399001000000'
+    echo '!20'
+    some 3000 '41498 86399001000000'
+    echo '!20'
+} | cmp -s - "$log" || fail "the header's loop of leap_replay"
+ok "header: its loop of leap_replay"
+
 # A declaration starts a line with the type returned, a number or a count.
 declared=$(sed -nE 's/^uint(8|64)_t (leap_[a-z_]*)\(.*/\2/p' "$root/include/leap.h" | sort)
 defined=$(nm -g --defined-only "$LEAP_LIB_DIR/libleap.a" | awk 'NF == 3 { print $3 }' | sort)
@@ -37,17 +68,17 @@ size "$LEAP_LIB_DIR/libleap.a" | awk 'NR > 1 { sum += $2 + $3; n++ } END { exit 
     || fail "the archive has data that can change"
 ok "archive: no data that can change, so no state"
 
-# Readers clear the words that they fill, writers and calls for many make arrays, calls about two lists make both; a single question looks at
-# the words where they stand.
+# Readers clear the words that they fill, writers and calls for many make arrays, calls about two lists make both, a replay stores and resets;
+# a single question looks at the words where they stand.
 copying=$(objdump -dr "$LEAP_LIB_DIR/libleap.a" \
     | awk '/^[0-9a-f]+ <.*>:$/ { name = $2 } /mem(cpy|move|set)/ { print name }' | sort -u)
 grep -q '<leap_read_text>' <<<"$copying" || fail "objdump shows no copy at all"
-copiers='leap_(read|write)_|leap_.*_many>|leap_(compare_text|longer_text|extends)>|(text|nybbles|compare)::'
+copiers='leap_(read|write)_|leap_.*_many>|leap_(compare_text|longer_text|extends|replay)>|(text|nybbles|compare|replay)::'
 questions=$(grep -vE "^<($copiers)" <<<"$copying") || true
 [ -z "$questions" ] || fail "the archive copies or clears memory in ${questions//$'\n'/ }"
 ok "archive: no single question copies or clears memory"
 
-for test in lists times malformed many compare; do
+for test in lists times malformed many compare replay; do
     compiled "$test" -g -fsanitize=address,undefined
     quietly "$test" "$built/$test"
     count_oks "$test"

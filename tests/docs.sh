@@ -18,7 +18,7 @@ count_oks "the tables"
 # a help text's example, as a document: from its first `$ ` on
 export PATH=$root/target/bin:$PATH
 words=$(leapsec help | sed -n 's/^leapsec \([a-z]*\).*/\1/p')
-[ "$(wc -w <<<"$words")" -eq 12 ] || fail "help has not twelve words: $words"
+[ "$(wc -w <<<"$words")" -eq 13 ] || fail "help has not thirteen words: $words"
 for word in $words; do
     leapsec help "$word" | sed -n '1i```console
 /^\$ /,$p

@@ -239,7 +239,8 @@ class Lines:
         r = self.random
         fields = self.fields()
         if self.chance(40):
-            fields[0] = r.choice([b"", b"Show", b"shows", b"sho", b"ask", b"help", b"current", b"tai\x00", b"\x00", b"\xff", b"dtai\r", b"longest"])
+            others = [b"ask", b"replay", b"help", b"current", b"longest"]
+            fields[0] = r.choice([b"", b"Show", b"shows", b"sho", b"tai\x00", b"\x00", b"\xff", b"dtai\r", *others])
         if self.chance(40):
             fields.insert(r.randrange(len(fields) + 1), r.choice([b"", b"", b"1", b"5?", b"\xe2\x80\xa6"]))
         if self.chance(40):

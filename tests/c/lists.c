@@ -97,7 +97,7 @@ static void writes_all(writer *write, const char *name, leap_schedule s,
 
 static void numbers(void)
 {
-    begin("lists: the twelve numbers");
+    begin("lists: the thirteen numbers");
     same("enum", "LEAP_OK", LEAP_OK, 0);
     same("enum", "LEAP_ENDS_EARLY", LEAP_ENDS_EARLY, 1);
     same("enum", "LEAP_NOT_ALLOWED", LEAP_NOT_ALLOWED, 2);
@@ -111,6 +111,7 @@ static void numbers(void)
     same("enum", "LEAP_NOT_KNOWN", LEAP_NOT_KNOWN, 10);
     same("enum", "LEAP_NOT_WELL_FORMED", LEAP_NOT_WELL_FORMED, 11);
     same("enum", "LEAP_CONTRADICTION", LEAP_CONTRADICTION, 16);
+    same("enum", "LEAP_NO_LINE", LEAP_NO_LINE, 20);
     end();
 }
 

@@ -47,6 +47,14 @@ static void longer_text(void)
     number = leap_longer_text(input, length, other, other_length, &part);
 }
 static void extends(void) { number = leap_extends(&schedule, &shorter, &yes); }
+static void replay(void)
+{
+    number = leap_replay(&schedule, &shorter, input, length, output, sizeof output, &one, &two);
+}
+static void replay_end(void)
+{
+    number = leap_replay_end(input, length, output, sizeof output, &one);
+}
 static void ask_dtai(void) { number = leap_dtai(&schedule, first, &dtai); }
 static void utc_to_tai(void) { number = leap_utc_to_tai(&schedule, first, second, &one); }
 static void tai_to_utc(void) { number = leap_tai_to_utc(&schedule, first, &one, &two); }
@@ -179,6 +187,24 @@ static void malformed(void) { ask_first(), schedule.leap[255].negative = 2; }
 static void two_dense(void) { dense(9), shorter = schedule, schedule.expiry++; }
 static void shorter_malformed(void) { two_dense(), shorter.leap[255].negative = 2; }
 
+/* Traces, under 256 leaps. The longest list has 752 bytes; of the answers to its
+ * questions those that fit are printed. */
+static void trace_longest(void)
+{
+    text_longest();
+    memmove(input + 2, input, length);
+    memcpy(input, "L ", 2), length += 2;
+    memcpy(input + length, "\nS\nZ\nQ 41317 0\n", 15), length += 15;
+}
+static void trace_asked(void) { dense(9), REPEAT("Q 111443 86398000000\n", INPUT / 21, ""); }
+static void trace_malformed(void) { malformed(), REPEAT("Q 111443 86398000000\n", 100, ""); }
+static void trace_stored(void) { dense(9), REPEAT("S\n", INPUT / 2, ""); }
+static void trace_reset(void) { two_dense(), REPEAT("Z\n", INPUT / 2, ""); }
+static void trace_lists(void) { dense(9), REPEAT("L 1+1?\n", INPUT / 7, ""); }
+static void trace_empty_lines(void) { dense(9), REPEAT("\n", INPUT, ""); }
+static void trace_long_line(void) { dense(9), REPEAT("L", INPUT - 1, "\n"); }
+static void trace_no_line(void) { dense(9), REPEAT("1+", INPUT / 2, ""); }
+
 static const struct {
     const char *name;
     void (*prepare)(void), (*call)(void);
@@ -212,6 +238,16 @@ static const struct {
     {"longer_text, 1 MiB as the second", second_megabyte, longer_text, 5},
     {"extends, 256 leaps", two_dense, extends, 0},
     {"extends, malformed", shorter_malformed, extends, 11},
+    {"replay, the longest list", trace_longest, replay, 0},
+    {"replay, 1 MiB of Q, 256 leaps", trace_asked, replay, 0},
+    {"replay, Q, malformed", trace_malformed, replay, 0},
+    {"replay, 1 MiB of S", trace_stored, replay, 0},
+    {"replay, 1 MiB of Z", trace_reset, replay, 0},
+    {"replay, 1 MiB of L", trace_lists, replay, 0},
+    {"replay, 1 MiB of empty lines", trace_empty_lines, replay, 0},
+    {"replay, a line of 1 MiB", trace_long_line, replay, 0},
+    {"replay, 1 MiB without a newline", trace_no_line, replay, 0},
+    {"replay_end, 1 MiB", trace_no_line, replay_end, 0},
     {"dtai, 256 leaps", ask_day, ask_dtai, 0},
     {"dtai, malformed", malformed, ask_dtai, 11},
     {"utc_to_tai, 256 leaps", ask_micros, utc_to_tai, 0},

@@ -3,11 +3,10 @@
 -- Assumes nothing: these are definitions.
 use Prim.Native.Nat.{ℕ}
 use mathlib.Core.Bool.{cond}
-use mathlib.Core.List.{List, _∷_, _++_}
+use mathlib.Core.List.{List}
 use Rattle.format.specs.Ascii.{ascii}
 use Rattle.format.specs.Parts.{same}
 use Rattle.format.specs.Decimal.{decimal, signed}
-use Rattle.clock.specs.declared.UtcMicros.{UtcMicros}
 use Rattle.clock.specs.declared.DtaiAnswer.{DtaiAnswer}
 use Rattle.clock.specs.declared.DtaiAnswer.the-variants as dtai
 use Rattle.clock.specs.declared.TaiAnswer.{TaiAnswer}
@@ -18,17 +17,14 @@ use Rattle.clock.specs.declared.UtsAnswer.{UtsAnswer}
 use Rattle.clock.specs.declared.UtsAnswer.the-variants as uts
 use Rattle.clock.specs.declared.MicrosAnswer.{MicrosAnswer}
 use Rattle.clock.specs.declared.MicrosAnswer.the-variants as micros
-use Rattle.format.specs.Lines.{spaceByte}
-use Rattle.line.specs.Refusal.{refusal}
+use Rattle.format.specs.Lines.{twoNumbers}
+use Rattle.format.specs.Refusal.{refusal}
 
 -- the list that a field names, by the embedded list
 abbrev pub namedBy : List ℕ → List ℕ → List ℕ
 namedBy embedded field = cond (same field (ascii "current")) embedded field
 
 -- the answers of the clock as they are put
-abbrev pub instant : ℕ → UtcMicros → List ℕ
-instant day t = decimal day ++ (spaceByte ∷ decimal (t .0))
-
 abbrev pub ofDtai : DtaiAnswer → List ℕ
 ofDtai (dtai.Given z) = signed z
 ofDtai (dtai.Refused n) = refusal n
@@ -38,7 +34,7 @@ ofTai (tai.Given x) = decimal (x .0)
 ofTai (tai.Refused n) = refusal n
 
 abbrev pub ofUtc : UtcAnswer → List ℕ
-ofUtc (utc.Given day t) = instant day t
+ofUtc (utc.Given day t) = twoNumbers day (t .0)
 ofUtc (utc.Refused n) = refusal n
 
 abbrev pub ofUts : UtsAnswer → List ℕ

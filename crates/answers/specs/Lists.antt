@@ -15,7 +15,7 @@ use Rattle.compare.specs.declared.longer.Chosen.{Chosen}
 use Rattle.compare.specs.declared.longer.Chosen.the-variants.{First, Second, Refused}
 use Rattle.compare.specs.Compare.{comparisonOf}
 use Rattle.compare.specs.Longer.{chosen}
-use Rattle.line.specs.Refusal.{refusal, refusalAt}
+use Rattle.format.specs.Refusal.{refusal, refusalAt}
 
 -- the embedded list, the official table of July 2026
 abbrev pub current : List ℕ

@@ -1,7 +1,7 @@
 -- Answers to the five time questions, in bytes.
 -- Assumes nothing: these are definitions.
 use Prim.Native.Nat.{ℕ}
-use mathlib.Core.List.{List, _∷_, _++_}
+use mathlib.Core.List.{List}
 use Rattle.format.specs.Decimal.{decimal, signed}
 use Rattle.schedule.specs.declared.Schedule.{Schedule}
 use Rattle.clock.specs.Question.{
@@ -17,8 +17,8 @@ use Rattle.clock.specs.Question.{
   Value,
   ask,
 }
-use Rattle.format.specs.Lines.{spaceByte}
-use Rattle.line.specs.Refusal.{refusal}
+use Rattle.format.specs.Lines.{twoNumbers}
+use Rattle.format.specs.Refusal.{refusal}
 use Rattle.answers.specs.declared.times.Asked.{Asked}
 use Rattle.answers.specs.declared.times.Asked.the-variants as asked
 use Rattle.answers.specs.Lists.{aboutList}
@@ -27,7 +27,7 @@ use Rattle.answers.specs.Lists.{aboutList}
 abbrev pub valuesOf : (q : Question) → Value q → List ℕ
 valuesOf (DTAI day) z = signed z
 valuesOf (UTC-to-TAI day t) x = decimal x
-valuesOf (TAI-to-UTC x) u = decimal (u .day) ++ (spaceByte ∷ decimal (u .micros))
+valuesOf (TAI-to-UTC x) u = twoNumbers (u .day) (u .micros)
 valuesOf (UTC-to-UTS day t) u = decimal u
 valuesOf (UTS-to-UTC day u) t = decimal t
 

@@ -10,7 +10,7 @@ ghost use Rattle.answers.specs.Inner.{namedBy};
 ghost use Rattle.answers.specs.Lists.{listOf, nybblesAnswer};
 use format::hex::put_hex;
 use format::parts::same;
-use line::refusal::put_refusal_at;
+use format::refusal::put_refusal_at;
 use schedule::Reading;
 use schedule::Schedule;
 

@@ -6,7 +6,7 @@ use crate::lists::CURRENT;
 use crate::lists::list_of;
 use compare::longer::Chosen;
 use format::output::put_all;
-use line::refusal::put_refusal;
+use format::refusal::put_refusal;
 
 // Puts the comparison of two lists, LF between its lines or `; `; of a refusal the number alone.
 pub fn put_comparison(out: &mut [u8], at: usize, lines: bool, x: &[u8], y: &[u8]) -> usize

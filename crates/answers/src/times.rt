@@ -1,7 +1,7 @@
 // Answers to time questions under a list.
 ghost use Rattle.format.specs.Output.{PutsUpTo};
 ghost use Rattle.answers.specs.Times.{askedOf, askedUnder, questionOf};
-ghost use Rattle.answers.specs.Inner.{instant, ofDtai, ofTai, ofUtc, ofUts, ofMicros};
+ghost use Rattle.answers.specs.Inner.{ofDtai, ofTai, ofUtc, ofUts, ofMicros};
 use crate::lists::read_list;
 use clock::DtaiAnswer;
 use clock::MicrosAnswer;
@@ -13,9 +13,9 @@ use clock::UtsAnswer;
 use clock::UtsNanos;
 use format::decimal::put_decimal;
 use format::decimal::put_signed;
-use format::output::put;
-use line::refusal::put_refusal;
-use line::refusal::put_refusal_at;
+use format::lines::put_two_numbers;
+use format::refusal::put_refusal;
+use format::refusal::put_refusal_at;
 use schedule::Schedule;
 
 // A time question, with a day or an instant.
@@ -47,21 +47,12 @@ fn put_tai(out: &mut [u8], at: usize, a: TaiAnswer) -> usize
     }
 }
 
-// Puts a day and the microseconds of it.
-fn put_instant(out: &mut [u8], at: usize, day: u64, t: UtcMicros) -> usize
-    ensures { λ r. ⌜ PutsUpTo 41 (now (out .entry)) (now (out .exit)) at r (instant day t) ⌝ }
-{
-    let a = put_decimal(out, at, day);
-    let b = put(out, a, b' ');
-    put_decimal(out, b, t.0)
-}
-
 // Puts an instant of UTC, or the refusal.
 fn put_utc(out: &mut [u8], at: usize, a: UtcAnswer) -> usize
     ensures { λ r. ⌜ PutsUpTo 41 (now (out .entry)) (now (out .exit)) at r (ofUtc a) ⌝ }
 {
     match a {
-        UtcAnswer::Given(day, t) => put_instant(out, at, day, t),
+        UtcAnswer::Given(day, t) => put_two_numbers(out, at, day, t.0),
         UtcAnswer::Refused(n) => put_refusal(out, at, n),
     }
 }

@@ -1,12 +1,11 @@
--- The parts of a line by where the first of them ends, and what a line is answered by its parts. Assumes nothing.
+-- What a line is answered by its parts. Assumes nothing.
 use mathlib.Core.Path.{_≡_}
 use mathlib.Core.Bool.{Bool}
-use mathlib.Core.List.{List, [], _∷_}
-use Prim.Native.Nat.{ℕ, _+_, _-_, _≤_, _<_}
+use mathlib.Core.List.{List, _∷_}
+use Prim.Native.Nat.{ℕ, _≤_, _<_}
 use native.Mathlib.Omega.{arith}
 use native.Mathlib.Decide.{decLe}
-use lib.ListN.{length, take, drop, length-drop}
-use lib.Seq.{take-all}
+use lib.ListN.{length}
 use borrow.Author.Tests.{le-leb, lt-leb}
 use Rattle.format.specs.Parts.{firstPart, parts}
 use Rattle.format.proofs.Splitting.{last-part, more-parts}
@@ -14,19 +13,6 @@ use Rattle.line.specs.declared.words.Word.{Word}
 use Rattle.format.specs.Lines.{spaceByte}
 use Rattle.line.specs.Words.{expected}
 use Rattle.command.specs.Answer.{answerFor, answerParts, maxLine, tooLong, answerTo}
-
-module _ (mark : ℕ) (bytes : List ℕ) (end : ℕ) (e : end ≡ 0 + length (firstPart mark bytes)) where
-  is-end : end ≡ length (firstPart mark bytes)
-  is-end = omega (arith, e)
-
-  pub only : length bytes ≤ end → parts mark bytes ≡ bytes ∷ []
-  only h = last-part mark bytes (omega (arith, is-end))
-
-  pub first-and-rest : end < length bytes → parts mark bytes ≡ take end bytes ∷ parts mark (take (length bytes - (end + 1)) (drop (end + 1) bytes))
-  first-and-rest h =
-      let all : take (length bytes - (end + 1)) (drop (end + 1) bytes) ≡ drop (end + 1) bytes
-      = take-all (length bytes - (end + 1)) (drop (end + 1) bytes) (omega (arith, length-drop (end + 1) bytes)) in
-      rw all (rw is-end (more-parts mark bytes (omega (arith, is-end))))
 
 -- four fields or more are too many for any word
 pub too-many : (lines : Bool) (w : Word) (x y z : List ℕ) (bytes : List ℕ) → answerFor lines w (x ∷ y ∷ z ∷ parts spaceByte bytes) ≡ expected w

@@ -2,7 +2,6 @@
 mod Others
 mod Fields
 mod Unhexed
-mod Going
 mod Unbroken
 mod TwoLists
 pub mod Streams

@@ -12,7 +12,8 @@ use Rattle.format.specs.declared.decimal.Number.{Number}
 use Rattle.format.specs.declared.decimal.Number.the-variants.{Given, Missing}
 use Rattle.format.specs.Hex.{isHex, unhex, hex}
 use Rattle.format.specs.Parts.{parts}
-use Rattle.format.proofs.Unbroken.{hasNo, Unbroken, more, parted, append, either, in-decimal, in-signed, in-hex, first-part}
+use Rattle.format.proofs.Fields.{hasNo}
+use Rattle.format.proofs.Unbroken.{Unbroken, more, parted, append, either, in-decimal, in-signed, in-hex, in-refusal, with-place, first-part}
 use Rattle.schedule.specs.declared.Schedule.{Schedule}
 use Rattle.schedule.specs.declared.Reading.{Reading}
 use Rattle.text.specs.Read.{readText}
@@ -23,16 +24,18 @@ use Rattle.clock.specs.Question.{Answer, given, refused, Question, DTAI, UTC-to
 use Rattle.line.specs.declared.words.Word.{Word}
 use Rattle.line.specs.declared.words.Word.the-variants.{Show, Nybbles, Text, Dtai, Tai, Utc, Uts, Unsmooth, Compare, Longer, Other}
 use Rattle.format.specs.Lines.{newline, spaceByte}
-use Rattle.line.specs.Refusal.{refusalAt}
+use Rattle.format.specs.Refusal.{refusalAt}
 use Rattle.line.specs.Words.{wordOf, expected}
+use Rattle.stream.specs.Lines.{butLast, linesOf}
+use Rattle.stream.specs.Stream.{printed}
+use Rattle.stream.proofs.Lines.{not-last}
 use Rattle.show.specs.Show.{shown}
 use Rattle.answers.specs.Lists.{listOf, aboutRead}
 use Rattle.answers.specs.Times.{valuesOf, told, askedOf, askedUnder}
 use Rattle.command.specs.Answer.{aboutNumber, aboutOne, aboutTwo, textAnswer, withOne, withTwo, withThree, answerFor, answerParts, maxLine, tooLong, answerTo}
-use Rattle.command.specs.Lines.{butLast, linesOf, answerLine, answersOf}
-use Rattle.command.proofs.Going.{not-last}
+use Rattle.command.specs.Lines.{answerLine, asking}
 use Rattle.command.proofs.TwoLists.{in-reading, in-comparison, in-longer}
-use Rattle.command.proofs.Unbroken.{in-text, in-refusal, with-place, in-expected, in-shown}
+use Rattle.command.proofs.Unbroken.{in-text, in-expected, in-shown}
 
 -- ---- answers about a list
 
@@ -137,19 +140,19 @@ no-place [] u i h = absurd (omega arith)
 no-place (b ∷ bs) u zero h = eqb-false b newline (parted b bs u .0)
 no-place (b ∷ bs) u (suc i) h = no-place bs (parted b bs u .1) i (omega arith)
 
-first-answer : (l : List ℕ) (ls : List (List ℕ)) → linesOf (answersOf (l ∷ ls)) ≡ answerTo false l ∷ linesOf (answersOf ls)
-unfolding linesOf answersOf answerLine
+first-answer : (l : List ℕ) (ls : List (List ℕ)) → linesOf (printed asking tt (l ∷ ls)) ≡ answerTo false l ∷ linesOf (printed asking tt ls)
+unfolding linesOf printed answerLine
 first-answer l ls =
-    ap (λ (bytes : List ℕ). butLast (parts newline bytes)) (append-assoc (answerTo false l) (newline ∷ []) (answersOf ls))
-    ∙ ap butLast (first-part (answerTo false l) (answersOf ls) (unbroken l))
-    ∙ not-last (answerTo false l) newline (answersOf ls)
+    ap (λ (bytes : List ℕ). butLast (parts newline bytes)) (append-assoc (answerTo false l) (newline ∷ []) (printed asking tt ls))
+    ∙ ap butLast (first-part (answerTo false l) (printed asking tt ls) (unbroken l))
+    ∙ not-last (answerTo false l) newline (printed asking tt ls)
 
 -- an answer that is to be one line has no LF
 pub one-line : (line : List ℕ) (i : ℕ) → i < length (answerTo false line) → getD (answerTo false line) i 0 ≡ newline → ⊥
 one-line line = no-place (answerTo false line) (unbroken line)
 
 -- what is written for lines, read as lines again, is the answer to each of them in order: one answer a line, none more, none less
-pub answers-in-order : (ls : List (List ℕ)) → linesOf (answersOf ls) ≡ map (answerTo false) ls
-unfolding linesOf answersOf parts
+pub answers-in-order : (ls : List (List ℕ)) → linesOf (printed asking tt ls) ≡ map (answerTo false) ls
+unfolding linesOf printed parts
 answers-in-order [] = refl
 answers-in-order (l ∷ ls) = first-answer l ls ∙ ap {B = List (List ℕ)} (λ rest. answerTo false l ∷ rest) (answers-in-order ls)

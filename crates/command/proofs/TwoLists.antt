@@ -5,7 +5,7 @@ use mathlib.Core.List.{List, [], _∷_}
 use Prim.Native.Nat.{ℕ}
 use lib.Dec.{eqb}
 use Rattle.format.specs.Lines.{between}
-use Rattle.format.proofs.Unbroken.{Unbroken, empty, append, either, in-decimal}
+use Rattle.format.proofs.Unbroken.{Unbroken, empty, append, either, in-decimal, in-refusal}
 use Rattle.schedule.specs.declared.Schedule.{Schedule}
 use Rattle.schedule.specs.declared.Reading.{Reading}
 use Rattle.schedule.specs.Answers.{byReading}
@@ -19,7 +19,7 @@ use Rattle.compare.proofs.TwoTexts.{Taken}
 use Rattle.compare.proofs.Shown.{AllUnbroken, lines-unbroken}
 use Rattle.answers.specs.Lists.{longerBy}
 use Rattle.answers.proofs.Chosen.{first-read, second-read}
-use Rattle.command.proofs.Unbroken.{in-text, in-refusal, in-between}
+use Rattle.command.proofs.Unbroken.{in-text, in-between}
 
 -- an answer about a list that was read, or its refusal
 pub in-reading : (r : Reading) (refuse : ℕ → ℕ → List ℕ) (f : Schedule → List ℕ) → ((n place : ℕ) → Unbroken (refuse n place)) → ((s : Schedule) → Unbroken (f s))

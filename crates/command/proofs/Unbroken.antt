@@ -1,10 +1,11 @@
--- No byte is LF in the lists, the refusals, the words and the dates of which answers are made. Assumes nothing.
+-- No byte is LF in the lists, the words and the dates of which answers are made. Assumes nothing.
 use mathlib.Core.Path.{refl}
 use mathlib.Core.Bool.{false}
 use mathlib.Core.List.{List, [], _∷_}
 use Prim.Native.Nat.{ℕ}
 use Rattle.format.specs.Ascii.{ascii}
-use Rattle.format.proofs.Unbroken.{hasNo, Unbroken, empty, more, append, either, digit, in-decimal, with-sign}
+use Rattle.format.proofs.Fields.{hasNo}
+use Rattle.format.proofs.Unbroken.{Unbroken, empty, more, append, either, digit, in-decimal, with-sign, in-refusal}
 use Rattle.schedule.specs.declared.Leap.{Leap}
 use Rattle.schedule.specs.declared.Schedule.{Schedule}
 use Rattle.schedule.specs.Schedule.{leapsOf}
@@ -13,7 +14,6 @@ use Rattle.compare.proofs.Shown.{sign}
 use Rattle.line.specs.declared.words.Word.{Word}
 use Rattle.line.specs.declared.words.Word.the-variants.{Show, Nybbles, Text, Dtai, Tai, Utc, Uts, Unsmooth, Compare, Longer, Other}
 use Rattle.format.specs.Lines.{between}
-use Rattle.line.specs.Refusal.{refusal, refusalAt}
 use Rattle.line.specs.Words.{usage, expected}
 use Rattle.show.specs.Show.{date, stretch, stretches, shown}
 
@@ -32,15 +32,7 @@ pub in-text : (s : Schedule) → Unbroken (textOf s)
 unfolding textOf
 in-text s = text-from 0 (leapsOf s) (s .expiry)
 
--- ---- refusals, and what was expected
-
-pub in-refusal : (n : ℕ) → Unbroken (refusal n)
-unfolding refusal
-in-refusal n = more refl (in-decimal n)
-
-pub with-place : (n place : ℕ) → Unbroken (refusalAt n place)
-unfolding refusalAt
-with-place n place = append (refusal n) (in-refusal n) (more refl (in-decimal place))
+-- ---- what was expected
 
 pub in-expected : (w : Word) → Unbroken (expected w)
 unfolding hasNo expected usage

@@ -14,7 +14,7 @@ use Rattle.schedule.specs.Extends.{below, sameLeaps}
 use Rattle.text.specs.Read.{readFrom, readText}
 use Rattle.compare.specs.Longer.{chosenOf}
 use Rattle.compare.specs.Compare.{hasLeap, leapMark, lineAt, monthLines, expiryLines, linesOf, relationBy, joined}
-use Rattle.line.specs.Refusal.{refusal}
+use Rattle.format.specs.Refusal.{refusal}
 use Rattle.line.specs.Words.{wordOf, usage, expected}
 use Rattle.answers.specs.Lists.{listOf, longerBy}
 use Rattle.command.specs.Answer.{withOne, withTwo, withThree, answerTo}

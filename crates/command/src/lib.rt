@@ -6,7 +6,9 @@ ghost use Rattle.format.specs.Parts.{parts};
 ghost use Rattle.format.specs.Lines.{spaceByte};
 ghost use Rattle.command.specs.Answer.{maxLine, maxAnswer, withOne, withTwo, withThree, answerFor, answerTo, Answered};
 ghost use Rattle.command.specs.Inner.{withNumber};
-ghost use Rattle.command.specs.Lines.{linesOf, answered, LinesAnswered};
+ghost use Rattle.stream.specs.Lines.{linesOf};
+ghost use Rattle.stream.specs.Stream.{answered, LinesAnswered};
+ghost use Rattle.command.specs.Lines.{asking};
 ghost use mathlib.Core.Bool.{Bool};
 ghost use mathlib.Core.List.{_∷_};
 
@@ -26,18 +28,13 @@ use format::parts::part_end;
 use line::words::Word;
 use line::words::put_expected;
 use line::words::word_of;
+use stream::Step;
 
 // The most bytes of a question line.
 pub const MAX_LINE: usize = 8192;
 
 // No answer is longer than this.
 const MAX_ANSWER: usize = 20_000;
-
-// How much of an input was used, and how much of an output written.
-pub struct Step {
-    pub used: usize,
-    pub written: usize,
-}
 
 // Puts the answer to a word with one field.
 fn put_with_one(out: &mut [u8], at: usize, lines: bool, word: Word, x: &[u8]) -> usize
@@ -159,7 +156,7 @@ pub fn answer(line: &[u8], lines: bool, out: &mut [u8]) -> usize
 
 // Answers the complete lines of an input, each by one line, as long as the output has room for any answer and its LF.
 pub fn answer_lines(input: &[u8], out: &mut [u8]) -> Step
-    ensures { λ r. ⌜ LinesAnswered (answered (length (now (out .entry))) (linesOf (now (input .entry)))) (now (out .entry)) (now (out .exit)) r ⌝ }
+    ensures { λ r. ⌜ LinesAnswered asking tt (answered asking (length (now (out .entry))) tt (linesOf (now (input .entry)))) (now (out .entry)) (now (out .exit)) tt r ⌝ }
 {
     let mut used: usize = 0;
     let mut written: usize = 0;

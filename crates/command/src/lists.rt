@@ -15,7 +15,7 @@ use answers::lists::read_list;
 use format::hex::is_hex;
 use format::hex::put_unhex;
 use format::output::put_all;
-use line::refusal::put_refusal_at;
+use format::refusal::put_refusal_at;
 use line::words::Word;
 use line::words::put_expected;
 use schedule::Reading;

@@ -12,7 +12,8 @@ use borrow.Author.Tests.{eqb-false, ne-eqb}
 use Rattle.format.specs.Decimal.{decimal}
 use Rattle.format.specs.Lines.{newline}
 use Rattle.format.specs.Parts.{parts}
-use Rattle.format.proofs.Unbroken.{hasNo, Unbroken, empty, more, append, in-decimal, first-part}
+use Rattle.format.proofs.Fields.{hasNo}
+use Rattle.format.proofs.Unbroken.{Unbroken, empty, more, append, in-decimal, first-part}
 use Rattle.schedule.specs.declared.Sign.{Sign}
 use Rattle.schedule.specs.declared.Sign.the-variants.{Positive, Negative}
 use Rattle.schedule.specs.declared.Leap.{Leap}

@@ -2,9 +2,9 @@
 -- Assumes nothing.
 use mathlib.Core.Path.{_≡_, refl, sym, ap, _∙_}
 use mathlib.Core.Bool.{Bool, true, false, cond, _&&_, and-eq-true-iff}
-use mathlib.Core.List.{List, [], _∷_, _++_}
+use mathlib.Core.List.{List, [], _∷_, _++_, append-assoc}
 use Prim.Native.Nat.{ℕ, zero, suc, _+_, _-_, _*_, _/_, _%_, _^_, _≤_, _<_}
-use native.Mathlib.Nat.{pow-suc}
+use native.Mathlib.Nat.{pow-suc, mul-assoc, mul-comm, mul-le-mul-left, mul-le-mul-right}
 use native.Mathlib.Omega.{arith}
 use lib.Dec.{ltb, leb, eqb}
 use lib.ListN.{length, getD, drop, length-append, drop-of-length-le}
@@ -12,7 +12,7 @@ use borrow.Author.Tests.{ltb-true, ltb-false, lt-ltb, le-ltb, leb-true, le-leb, 
 use Rattle.format.specs.Ascii.{within}
 use Rattle.format.specs.declared.decimal.Number.{Number}
 use Rattle.format.specs.declared.decimal.Number.the-variants.{Given, Missing}
-use Rattle.format.specs.Decimal.{digit, digitsIn, decimal, isDigit, allDigits, valueAfter, isEmpty, maxNumber, isNumber, numberOf}
+use Rattle.format.specs.Decimal.{digit, digitsIn, decimal, pair, eight, isDigit, allDigits, valueAfter, isEmpty, maxNumber, isNumber, numberOf}
 use Rattle.format.proofs.Cases.{by-bool}
 use Rattle.format.proofs.Lists.{uncons}
 
@@ -37,6 +37,33 @@ unfolding decimal digitsIn
 large n h =
     let e : digitsIn n (n / 10) ≡ digitsIn (suc (n / 10)) (n / 10) = enough n (suc (n / 10)) (n / 10) (omega arith) (omega arith) in
     simp (le-ltb n 10 h, e)
+
+-- a number of two digits, and of more, by its last two digits
+pub two-digits : (n : ℕ) → 10 ≤ n → n < 100 → decimal n ≡ pair n
+two-digits n h g =
+    let last : n / 10 ≡ n / 10 % 10 = omega arith in
+    large n h ∙ rw (small (n / 10) (omega arith), ← last)
+
+pub more-digits : (n : ℕ) → 100 ≤ n → decimal n ≡ decimal (n / 100) ++ pair n
+more-digits n h =
+    let tenths : n / 10 / 10 ≡ n / 100 = omega arith in
+    large n (omega arith)
+    ∙ rw (large (n / 10) (omega arith), tenths) (append-assoc (decimal (n / 100)) (digit (n / 10 % 10) ∷ []) (digit (n % 10) ∷ []))
+
+-- and of many, by its last eight
+pub many-digits : (n : ℕ) → 100_000_000 ≤ n → decimal n ≡ decimal (n / 100_000_000) ++ eight n
+many-digits n h =
+    let two : n / 100 / 100 ≡ n / 10_000 = omega arith in
+    let three : n / 10_000 / 100 ≡ n / 1_000_000 = omega arith in
+    let four : n / 1_000_000 / 100 ≡ n / 100_000_000 = omega arith in
+    let c = more-digits n (omega arith) in
+    let b = more-digits (n / 100) (omega arith) in
+    let a = more-digits (n / 10_000) (omega arith) in
+    let z = more-digits (n / 1_000_000) (omega arith) in
+    c ∙ rw (b, two, a, three, z, four)
+    (ap (λ (x : List ℕ). x ++ pair n) (ap (λ (x : List ℕ). x ++ pair (n / 100)) (append-assoc (decimal (n / 100_000_000)) (pair (n / 1_000_000)) (pair (n / 10_000))))
+    ∙ ap (λ (x : List ℕ). x ++ pair n) (append-assoc (decimal (n / 100_000_000)) (pair (n / 1_000_000) ++ pair (n / 10_000)) (pair (n / 100)))
+    ∙ append-assoc (decimal (n / 100_000_000)) ((pair (n / 1_000_000) ++ pair (n / 10_000)) ++ pair (n / 100)) (pair n))
 
 -- a number below a power of ten has no more digits than that
 pub decimal-short : (k n : ℕ) → n < 10 ^ suc k → length (decimal n) ≤ suc k
@@ -143,3 +170,45 @@ some-digit n =
 pub decimal-back : (n : ℕ) → n ≤ maxNumber → numberOf (decimal n) ≡ Given n
 unfolding numberAfter
 decimal-back n h = begins (decimal n) (some-digit n) ∙ simp (are-digits n, value-of n, le-leb n maxNumber h)
+
+-- ---- as many digits, no larger a number
+
+some-tens : (k : ℕ) → 1 ≤ 10 ^ k
+some-tens zero = omega arith
+some-tens (suc k) = omega (arith, some-tens k, pow-suc 10 k)
+
+-- digits after those of n, at most k of them, mean less than n + 1 followed by k zeros
+value-below : (k : ℕ) (xs : List ℕ) (n : ℕ) → length xs ≤ k → allDigits xs ≡ true → valueAfter n xs < (n + 1) * 10 ^ k
+unfolding valueAfter allDigits within
+value-below k [] n h d = omega (arith, mul-le-mul-left (n + 1) (some-tens k))
+value-below zero (x ∷ xs) n h d = absurd (omega arith)
+value-below (suc k) (x ∷ xs) n h d =
+    let e = and-eq-true-iff (isDigit x) (allDigits xs) .0 d in
+    let nine : x ≤ 57 = leb-true x 57 (and-eq-true-iff (leb 48 x) (leb x 57) .0 (e .0) .1) in
+    let m = n * 10 + (x - 48) in
+    let less : (m + 1) * 10 ^ k ≤ (n + 1) * 10 * 10 ^ k = mul-le-mul-right (10 ^ k) (omega arith) in
+    let tens : (n + 1) * 10 * 10 ^ k ≡ (n + 1) * 10 ^ suc k = mul-assoc (n + 1) 10 (10 ^ k) ∙ ap (λ (y : ℕ). (n + 1) * y) (mul-comm 10 (10 ^ k) ∙ sym (pow-suc 10 k)) in
+    omega (arith, value-below k xs m (omega arith) (e .1), less, tens)
+
+-- a field of 1 to 18 digits, leading zeros or not, gives its number; and one of at most 18 bytes that gives a number is such digits
+pub few-digits : (field : List ℕ) → 1 ≤ length field → length field ≤ 18 → allDigits field ≡ true → numberOf field ≡ Given (valueAfter 0 field)
+unfolding numberAfter
+few-digits field h g d =
+    begins field (λ z. absurd (omega arith)) ∙ simp (d, le-leb (valueAfter 0 field) maxNumber (omega (arith, value-below 18 field 0 g d)))
+
+pub given-digits : (field : List ℕ) (n : ℕ) → numberOf field ≡ Given n → (1 ≤ length field) × (allDigits field ≡ true) × (valueAfter 0 field ≡ n)
+unfolding numberOf
+given-digits [] n = λ e. absurd (never e)
+  where
+    never : Missing ≡ Given n → ⊥
+    never e = let z : _≡_ {A = ℕ} 0 1 = cc in omega arith
+given-digits (b ∷ bs) n =
+    by-bool (allDigits (b ∷ bs) && leb (valueAfter 0 (b ∷ bs)) maxNumber)
+    (λ a. simp a (λ e. (omega arith, and-eq-true-iff (allDigits (b ∷ bs)) (leb (valueAfter 0 (b ∷ bs)) maxNumber) .0 a .0, same-number e)))
+    (λ a. simp a (λ e. absurd (never e)))
+  where
+    never : Missing ≡ Given n → ⊥
+    never e = let z : _≡_ {A = ℕ} 0 1 = cc in omega arith
+
+    same-number : Given (valueAfter 0 (b ∷ bs)) ≡ Given n → valueAfter 0 (b ∷ bs) ≡ n
+    same-number e = cc

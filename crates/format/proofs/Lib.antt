@@ -9,4 +9,5 @@ pub mod Signs
 pub mod Integers
 pub mod Halves
 pub mod Splitting
+pub mod Fields
 pub mod Unbroken

@@ -1,7 +1,7 @@
--- No byte is LF: what bytes without LF are made of, numbers among them; and such bytes before an LF are a line.
+-- No byte is LF: what bytes without LF are made of, numbers and refusals among them; and such bytes before an LF are a line.
 -- Assumes nothing.
 use mathlib.Core.Path.{_≡_, refl}
-use mathlib.Core.Bool.{Bool, true, false, cond, not, _&&_, and-eq-true-iff}
+use mathlib.Core.Bool.{Bool, true, false, cond, not, and-eq-true-iff}
 use mathlib.Core.List.{List, [], _∷_, _++_}
 use Prim.Native.Nat.{ℕ, zero, suc, _+_, _/_, _%_}
 use native.Mathlib.Omega.{arith}
@@ -13,12 +13,9 @@ use Rattle.format.specs.Decimal.{digitsIn, decimal, signed, withSign}
 use Rattle.format.specs.Hex.{hexDigit, hex}
 use Rattle.format.specs.Lines.{newline}
 use Rattle.format.specs.Parts.{parts}
+use Rattle.format.specs.Refusal.{refusal, refusalAt}
 use Rattle.format.proofs.Cases.{by-bool}
-
--- no byte is this one
-unfoldable pub hasNo : ℕ → List ℕ → Bool
-hasNo mark [] = true
-hasNo mark (b ∷ bs) = not (eqb b mark) && hasNo mark bs
+use Rattle.format.proofs.Fields.{hasNo, part-before}
 
 -- no byte is LF
 pub record Unbroken (bytes : List ℕ) : Type 0 where
@@ -77,10 +74,18 @@ unfolding hex
 in-hex [] = empty
 in-hex (b ∷ bs) = more (hex-digit (b / 16)) (more (hex-digit (b % 16)) (in-hex bs))
 
+-- ---- refusals
+
+pub in-refusal : (n : ℕ) → Unbroken (refusal n)
+unfolding refusal
+in-refusal n = more refl (in-decimal n)
+
+pub with-place : (n place : ℕ) → Unbroken (refusalAt n place)
+unfolding refusalAt
+with-place n place = append (refusal n) (in-refusal n) (more refl (in-decimal place))
+
 -- ---- lines
 
 -- bytes without LF before an LF are the first line
 pub first-part : (xs ys : List ℕ) → Unbroken xs → parts newline (xs ++ (newline ∷ ys)) ≡ xs ∷ parts newline ys
-unfolding parts
-first-part [] ys u = refl
-first-part (x ∷ xs) ys u = let p = parted x xs u in simp (p .0, first-part xs ys (p .1))
+first-part xs ys u = part-before newline xs ys (u .none)

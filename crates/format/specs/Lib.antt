@@ -4,3 +4,4 @@ pub mod Decimal
 pub mod Hex
 pub mod Parts
 pub mod Lines
+pub mod Refusal

@@ -1,9 +1,10 @@
--- What parts the lines of a text, and the fields of a line.
+-- What parts the lines of a text and the fields of a line, and a line of two numbers.
 -- Assumes nothing: these are definitions.
 use Prim.Native.Nat.{ℕ}
 use mathlib.Core.Bool.{Bool, true, false}
-use mathlib.Core.List.{List, [], _∷_}
+use mathlib.Core.List.{List, [], _∷_, _++_}
 use Rattle.format.specs.Ascii.{ascii}
+use Rattle.format.specs.Decimal.{decimal}
 
 -- LF and " "
 abbrev pub newline : ℕ
@@ -16,3 +17,7 @@ spaceByte = 32
 unfoldable pub between : Bool → List ℕ
 between true = newline ∷ []
 between false = ascii "; "
+
+-- two numbers, one space between them
+abbrev pub twoNumbers : ℕ → ℕ → List ℕ
+twoNumbers a b = decimal a ++ (spaceByte ∷ decimal b)

@@ -5,7 +5,7 @@ ghost use Prim.Native.Nat.{_-_, _<_};
 ghost use lib.IntN.{natAbs};
 ghost use Rattle.format.specs.Output.{Puts, PutsUpTo};
 ghost use Rattle.format.specs.Ascii.{within, zeroByte};
-ghost use Rattle.format.specs.Decimal.{digit, decimal, pair, signed, withSign, isDigit, numberOf};
+ghost use Rattle.format.specs.Decimal.{digit, decimal, pair, eight, signed, withSign, isDigit, numberOf};
 use crate::output::put;
 
 // A number that a field gives, or that it gives none.
@@ -22,23 +22,40 @@ fn digit(d: u64) -> u8
     b'0' + d as u8
 }
 
-// Puts a number, with no leading zero.
-pub fn put_decimal(out: &mut [u8], at: usize, n: u64) -> usize
-    ensures { λ r. ⌜ PutsUpTo 20 (now (out .entry)) (now (out .exit)) at r (decimal n) ⌝ }
-{
-    if n < 10 {
-        return put(out, at, digit(n));
-    }
-    let next = put_decimal(out, at, n / 10);
-    put(out, next, digit(n % 10))
-}
-
 // Puts the last two digits of a number.
 pub fn put_pair(out: &mut [u8], at: usize, n: u64) -> usize
     ensures { λ r. ⌜ Puts (now (out .entry)) (now (out .exit)) at r (pair n) ⌝ }
 {
     let next = put(out, at, digit(n / 10 % 10));
     put(out, next, digit(n % 10))
+}
+
+// Puts the last eight digits of a number.
+fn put_eight(out: &mut [u8], at: usize, n: u64) -> usize
+    ensures { λ r. ⌜ Puts (now (out .entry)) (now (out .exit)) at r (eight n) ⌝ }
+{
+    let a = put_pair(out, at, n / 1_000_000);
+    let b = put_pair(out, a, n / 10_000);
+    let c = put_pair(out, b, n / 100);
+    put_pair(out, c, n)
+}
+
+// Puts a number, with no leading zero. By two digits at a time, and eight of a long number, since calls and divisions take longer than digits.
+pub fn put_decimal(out: &mut [u8], at: usize, n: u64) -> usize
+    ensures { λ r. ⌜ PutsUpTo 20 (now (out .entry)) (now (out .exit)) at r (decimal n) ⌝ }
+{
+    if n < 10 {
+        return put(out, at, digit(n));
+    }
+    if n < 100 {
+        return put_pair(out, at, n);
+    }
+    if n < 100_000_000 {
+        let next = put_decimal(out, at, n / 100);
+        return put_pair(out, next, n);
+    }
+    let next = put_decimal(out, at, n / 100_000_000);
+    put_eight(out, next, n)
 }
 
 // How far an integer is from zero.
@@ -117,10 +134,14 @@ pub fn read_decimal(field: &[u8]) -> Number
             return Number::Missing;
         }
         let d = digit_of(b);
-        if (u64::MAX - d) / 10 < n {
+        if u64::MAX / 10 < n {
             return Number::Missing;
         }
-        n = n * 10 + d;
+        let tens = n * 10;
+        if u64::MAX - d < tens {
+            return Number::Missing;
+        }
+        n = tens + d;
         i += 1;
     }
     Number::Given(n)

@@ -1,6 +1,7 @@
-// What parts the lines of a text.
+// What parts the lines of a text, and a line of two numbers.
 ghost use Rattle.format.specs.Output.{PutsUpTo};
-ghost use Rattle.format.specs.Lines.{between};
+ghost use Rattle.format.specs.Lines.{between, twoNumbers};
+use crate::decimal::put_decimal;
 use crate::output::put;
 
 // Puts what stands between lines: LF, or `; ` where they are to be one line.
@@ -12,4 +13,13 @@ pub fn put_between(out: &mut [u8], at: usize, lines: bool) -> usize
     }
     let next = put(out, at, b';');
     put(out, next, b' ')
+}
+
+// Puts two numbers, one space between them.
+pub fn put_two_numbers(out: &mut [u8], at: usize, first: u64, second: u64) -> usize
+    ensures { λ r. ⌜ PutsUpTo 41 (now (out .entry)) (now (out .exit)) at r (twoNumbers first second) ⌝ }
+{
+    let a = put_decimal(out, at, first);
+    let b = put(out, a, b' ');
+    put_decimal(out, b, second)
 }

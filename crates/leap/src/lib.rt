@@ -19,7 +19,9 @@ ghost use Rattle.clock.specs.Many.{answerAt, answersAt, HandsMany, HandsManyUtc
 ghost use Rattle.clock.specs.Question.{dtaiOn, utcToTai, taiToUtc, utcToUts, utsToUtc};
 ghost use Rattle.schedule.specs.WordLayout.{meant};
 ghost use Rattle.schedule.specs.Answers.{HandsReading};
-ghost use Rattle.leap.specs.Calls.{HandsBytes, HandsWriting, yesOf, extension};
+ghost use Rattle.schedule.specs.Answers.{fitting, fitted};
+ghost use Rattle.replay.specs.Replay.{unended};
+ghost use Rattle.leap.specs.Calls.{HandsBytes, HandsWriting, HandsReplay, yesOf, extension};
 
 // Reads a compact text list.
 #[no_mangle]
@@ -231,4 +233,36 @@ pub extern "C" fn leap_uts_to_utc_many(
     ensures { λ n. ⌜ HandsMany 0 (answersAt (utsToUtc (meant (now (words .entry)))) (now (mjd .entry)) (now (nanos .entry))) (min (min (length (now (mjd .entry))) (length (now (nanos .entry)))) (min (length (now (numbers .entry))) (length (now (micros .entry))))) (now (numbers .entry)) (now (micros .entry)) n (now (numbers .exit)) (now (micros .exit)) ⌝ }
 {
     clock::many::uts_to_utc(words, mjd, nanos, numbers, micros)
+}
+
+// Replays the complete lines of a piece of a trace, from a current and a stored list.
+#[no_mangle]
+pub extern "C" fn leap_replay(
+    current: &mut [u32; 514],
+    stored: &mut [u32; 514],
+    trace: &[u8],
+    out: &mut [u8],
+    used: &mut u64,
+    written: &mut u64,
+) -> u8
+    ensures { λ n. ⌜ HandsReplay (record { current = now (current .entry); stored = now (stored .entry) }) (now (trace .entry)) (now (out .entry)) n (record { current = now (current .exit); stored = now (stored .exit) }) (now (out .exit)) (now (used .exit)) (now (written .exit)) ⌝ }
+{
+    let room = out.len();
+    let step = replay::replay(current, stored, trace, out);
+    *used = step.used as u64;
+    *written = step.written as u64;
+    if room < replay::MAX_PRINTED {
+        return refusals::OUTPUT_SHORT;
+    }
+    0
+}
+
+// Ends a trace, by what stands after its last LF.
+#[no_mangle]
+pub extern "C" fn leap_replay_end(left: &[u8], out: &mut [u8], written: &mut u64) -> u8
+    ensures { λ n. ⌜ HandsBytes (fitting (unended (now (left .entry))) (length (now (out .entry)))) (fitted (unended (now (left .entry))) (now (out .entry))) n (now (written .exit)) (now (out .exit)) ⌝ }
+{
+    let w = replay::replay_end(left, out);
+    *written = w.count as u64;
+    w.number
 }

@@ -20,6 +20,7 @@ leapsec unsmooth LIST MJD NANOS  smoothed time to UTC: MICROS\n\
 leapsec compare LIST LIST        where two lists part, and whether one extends the other\n\
 leapsec longer LIST LIST         of two lists the one that extends the other\n\
 leapsec ask                      a question a line from standard input, an answer a line\n\
+leapsec replay                   a recorded trace of lists, resets and questions from standard input\n\
 leapsec help WORD                more about one of these words, with an example\n\
 \n\
 LIST    a compact text list such as '6+5?', or the word current\n\
@@ -35,7 +36,9 @@ lists no place is given, and compare gives the number alone, without the !. The 
 1 list ends early            4 past month 2400          8 before 1972\n\
 2 byte not allowed there     5 more than 256 leaps      9 no such instant\n\
 3 gap malformed or over 999  6 something after the end  10 expired or not yet known\n\
-16 two lists contradict each other\n",
+11 no list is known yet, in a trace\n\
+16 two lists contradict each other\n\
+20 no line of a trace\n",
     );
 }
 
@@ -164,11 +167,28 @@ $ printf 'dtai current 57753\\nshow 5?\\n' | leapsec ask\n\
     );
 }
 
+fn print_replay() {
+    write(
+        b"leapsec replay\n\
+Replays a recorded trace from standard input, a line at a time. At the start no list is known.\n\
+L LIST        use this text list from here on; if it is refused, ! and its number, and the list in use stays\n\
+S             store the list in use\n\
+Z             reset: use the stored list from here on\n\
+Q MJD MICROS  the smoothed time of an instant of UTC under the list in use: MJD NANOS, or ! and the number\n\
+One space stands between the fields. Any other line is answered by !20 and changes nothing, also one of more\n\
+than 4,096 bytes, a number of more than 18 digits, and a last line without a newline. L, S and Z print nothing\n\
+else.\n\
+\n\
+$ printf 'L 6+5?\\nQ 41498 86400000000\\n' | leapsec replay\n\
+41498 86399001000000\n",
+    );
+}
+
 fn print_help() {
     write(
         b"leapsec help WORD\n\
-More about a word: show, nybbles, text, dtai, tai, utc, uts, unsmooth, compare, longer, ask or help. Without\n\
-one, all of them.\n\
+More about a word: show, nybbles, text, dtai, tai, utc, uts, unsmooth, compare, longer, ask, replay or help.\n\
+Without one, all of them.\n\
 \n\
 $ leapsec help utc | head -n 1\n\
 leapsec utc LIST TAI\n",
@@ -181,12 +201,16 @@ fn print_own(word: &[u8]) {
         print_ask();
         return;
     }
+    if same(word, b"replay") {
+        print_replay();
+        return;
+    }
     if same(word, b"help") {
         print_help();
         return;
     }
     write(
-        b"? expected: help WORD, WORD being show, nybbles, text, dtai, tai, utc, uts, unsmooth, compare, longer, ask or help\n",
+        b"? expected: help WORD, WORD being show, nybbles, text, dtai, tai, utc, uts, unsmooth, compare, longer, ask, replay or help\n",
     );
 }
 

@@ -1,10 +1,11 @@
-// Answers the question that its arguments are, or every line of its standard input. The crate `command` makes the answers; here bytes are moved.
+// Answers the question that its arguments are, or every line of its standard input. The crates `command` and `replay` make the answers; here bytes
+// are moved.
 ghost use Prim.Native.Nat.{_≤_};
 ghost use lib.ListN.{length};
 ghost use Rattle.io.specs.Counts.{Counts};
 
-mod ask; // ask.rt: the questions of standard input
 mod help; // help.rt: the help texts
+mod lines; // lines.rt: the lines of standard input, questions or a trace
 mod output; // output.rt: standard output
 
 use crate::output::print_answer;
@@ -45,10 +46,19 @@ fn put_arguments(line: &mut [u8], count: usize) -> usize
 // Answers `ask`, by what stands behind the word: nothing may.
 fn run_ask(rest: &[u8]) {
     if rest.len() == 0 {
-        ask::ask();
+        lines::answer(false);
         return;
     }
     write(b"? expected: ask\n");
+}
+
+// Answers `replay`, by what stands behind the word: nothing may.
+fn run_replay(rest: &[u8]) {
+    if rest.len() == 0 {
+        lines::answer(true);
+        return;
+    }
+    write(b"? expected: replay\n");
 }
 
 // Answers `help`, by what stands behind the word: nothing, or a space and a word.
@@ -66,12 +76,16 @@ fn run_own(word: &[u8], rest: &[u8]) {
         run_ask(rest);
         return;
     }
+    if same(word, b"replay") {
+        run_replay(rest);
+        return;
+    }
     if same(word, b"help") {
         run_help(rest);
         return;
     }
     write(
-        b"? expected: show, nybbles, text, dtai, tai, utc, uts, unsmooth, compare, longer, ask or help\n",
+        b"? expected: show, nybbles, text, dtai, tai, utc, uts, unsmooth, compare, longer, ask, replay or help\n",
     );
 }
 

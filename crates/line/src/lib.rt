@@ -1,3 +1,2 @@
-// The words of a question line, what was expected where a line is no question, and refusals as an answer has them.
-pub mod refusal; // refusal.rt: refusals
+// The words of a question line, and what was expected where a line is no question.
 pub mod words; // words.rt: the words of a line, and what was expected

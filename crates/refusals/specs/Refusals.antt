@@ -26,7 +26,7 @@ tooManyLeaps = 5
 abbrev pub afterEnd : ℕ
 afterEnd = 6
 
--- 7: the output is shorter than the list, or than the comparison of two
+-- 7: the output is shorter than the list, the comparison of two, or a line that a trace prints
 abbrev pub outputShort : ℕ
 outputShort = 7
 
@@ -49,3 +49,7 @@ notWellFormed = 11
 -- 16: two lists contradict each other
 abbrev pub contradiction : ℕ
 contradiction = 16
+
+-- 20: no line of a trace
+abbrev pub noLine : ℕ
+noLine = 20

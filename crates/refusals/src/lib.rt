@@ -18,7 +18,7 @@ pub const TOO_MANY_LEAPS: u8 = 5;
 // Something after the end.
 pub const AFTER_END: u8 = 6;
 
-// The output is shorter than the list, or than the comparison of two.
+// The output is shorter than the list, the comparison of two, or a line that a trace prints.
 pub const OUTPUT_SHORT: u8 = 7;
 
 // Before 1972.
@@ -35,3 +35,6 @@ pub const NOT_WELL_FORMED: u8 = 11;
 
 // Two lists contradict each other.
 pub const CONTRADICTION: u8 = 16;
+
+// No line of a trace.
+pub const NO_LINE: u8 = 20;

@@ -13,7 +13,7 @@ use Rattle.schedule.specs.declared.Schedule.{Schedule}
 use Rattle.schedule.specs.Schedule.{leapsOf, wellFormed}
 use Rattle.clock.specs.Days.{dtai}
 use Rattle.format.specs.Lines.{spaceByte, between}
-use Rattle.line.specs.Refusal.{refusal}
+use Rattle.format.specs.Refusal.{refusal}
 
 -- day d of month m as a date: year, month and day, as `1972-01-31`
 unfoldable pub date : ℕ → ℕ → List ℕ

@@ -15,7 +15,7 @@ use format::decimal::put_with_sign;
 use format::lines::put_between;
 use format::output::put;
 use format::output::put_all;
-use line::refusal::put_refusal;
+use format::refusal::put_refusal;
 use refusals::NOT_WELL_FORMED;
 use schedule::Schedule;
 use schedule::is_well_formed;

@@ -1,10 +1,11 @@
 //! What is compared before anything is timed: every program's answer to every
-//! question about every instant, the lists read and written, and two lists
-//! compared with each other.
+//! question about every instant, the lists read and written, two lists compared
+//! with each other, and a day replayed.
 
 use leap::ffi;
 use second::Raw;
 
+use crate::day::Day;
 use crate::lists::{List, Two};
 use crate::questions::{ask, Instants, Outputs, Program, Question};
 
@@ -114,4 +115,15 @@ pub fn two(lists: &Two) -> Result<usize, String> {
         return Err(format!("{}: another list is the longer", lists.name));
     }
     Ok(length as usize)
+}
+
+/// What a day's trace prints, by archive and second program; gives how many bytes.
+pub fn day(day: &Day) -> Result<usize, String> {
+    let (mut ours, mut theirs) = (Vec::new(), Vec::new());
+    day.by_archive(&mut ours);
+    day.by_second(&mut theirs);
+    if ours != theirs {
+        return Err("a day is replayed differently".to_string());
+    }
+    Ok(ours.len())
 }

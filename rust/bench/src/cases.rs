@@ -8,6 +8,7 @@ use leap::ffi::{self, Words};
 use second::Raw;
 
 use crate::baseline;
+use crate::day::Day;
 use crate::erfa;
 use crate::instants::COUNT;
 use crate::lists::{List, Two};
@@ -20,6 +21,7 @@ pub const READ_TEXT: &str = "read text";
 pub const COMPARE_LARGEST: &str = "compare 256";
 pub const COMPARE_B: &str = "compare B";
 pub const LONGER_B: &str = "longer of B";
+pub const REPLAY: &str = "replay";
 
 /// Calls in a round of reading or writing a list, or of comparing two.
 const LIST_CALLS: usize = 256;
@@ -124,6 +126,26 @@ pub fn two_lists<'a>(largest: &'a Two, b: &'a Two) -> Vec<Timed> {
         second_comparing(COMPARE_B, b),
         choosing(LONGER_B, b),
         second_choosing(LONGER_B, b),
+    ])
+}
+
+/// A day replayed by archive and second program, a call being a line.
+pub fn replay(day: &Day) -> Vec<Timed> {
+    fn case<'a>(day: &'a Day, program: &'static str, replay: fn(&Day, &mut Vec<u8>)) -> Case<'a> {
+        let mut out = Vec::new();
+        Case {
+            what: REPLAY,
+            program,
+            calls: day.lines,
+            round: Box::new(move || {
+                replay(black_box(day), &mut out);
+                black_box(&mut out);
+            }),
+        }
+    }
+    measure(vec![
+        case(day, ARCHIVE, Day::by_archive),
+        case(day, crate::programs::SECOND, Day::by_second),
     ])
 }
 

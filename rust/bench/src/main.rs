@@ -4,6 +4,7 @@
 mod agree;
 mod baseline;
 mod cases;
+mod day;
 mod erfa;
 mod instants;
 mod lists;
@@ -16,6 +17,7 @@ mod targets;
 use std::process::ExitCode;
 
 use baseline::BASELINE;
+use day::Day;
 use instants::COUNT;
 use lists::{List, Two};
 use measure::{median, Timed, ROUNDS};
@@ -34,6 +36,7 @@ It takes no arguments but --help. Under list B, of 27 leaps, and under a list of
 - reading and writing both lists as text and as nybbles
 - comparing the two lists with the longest comparison, of 256 leaps each, list B
   with itself, and handing back the longer of list B and itself
+- replaying a branch's day, whose questions are about the instants of one evening
 
 and under a list of 256 leaps, a month apart, the calls for many questions about
 instants at random,
@@ -44,9 +47,10 @@ beside
 - ERFA, if bench is built with the feature erfa, which tools/bench looks to
 
 and at last says which targets are met under list B, for random instants and for
-those of one evening, and by the calls about two lists. Before it times anything it compares the
-answers of archive, second program and baseline. The exit status is 0 whatever
-the times are, 1 if answers differ, and 2 for an unknown argument.
+those of one evening, by the calls about two lists and by a day's replay. Before it
+times anything it compares the answers of archive, second program and baseline. The
+exit status is 0 whatever the times are, 1 if answers differ, and 2 for an unknown
+argument.
 ";
 
 const COMPARED: &str = "\
@@ -188,6 +192,9 @@ fn run() -> Result<(), String> {
         let (name, bytes) = (two.name, agree::two(two)?);
         println!("  two lists, {name}: compared in {bytes} bytes, and the longer of them");
     }
+    let day = Day::new(b.list, &b.sets[1]);
+    let (lines, bytes) = (day.lines, agree::day(&day)?);
+    println!("  list B, a day of {lines} lines: replayed, {bytes} bytes printed");
     println!("  all equal");
     print_method();
     let questions = b.questions(true);
@@ -198,11 +205,13 @@ fn run() -> Result<(), String> {
     let formats = b.formats();
     longest.formats();
     let two = two_lists(&largest, &b_twice);
+    let replayed = replay(&day);
     for (set, timed) in b.sets.iter().zip(&questions) {
         targets::print_questions(set.name, timed);
     }
     targets::print_reading(&formats);
     targets::print_two(&two);
+    targets::print_replay(&replayed);
     Ok(())
 }
 
@@ -210,6 +219,14 @@ fn two_lists(largest: &Two, b: &Two) -> Vec<Timed> {
     let timed = cases::two_lists(largest, b);
     let title = "two lists, of 256 leaps each with none shared, and list B twice: ns a call";
     let ratios = [ratio("x second", |timed, what| median(timed, what, SECOND))];
+    tables::print(title, &timed, &ratios, &[]);
+    timed
+}
+
+fn replay(day: &Day) -> Vec<Timed> {
+    let timed = cases::replay(day);
+    let ratios = [ratio("x second", |timed, what| median(timed, what, SECOND))];
+    let title = "list B, a day replayed, instants of one day: ns a line";
     tables::print(title, &timed, &ratios, &[]);
     timed
 }

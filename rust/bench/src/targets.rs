@@ -1,8 +1,8 @@
 //! The targets, as far as this run has met them: list B, both sets of instants
-//! by themselves, reading, and two lists.
+//! by themselves, reading, two lists, and a day replayed.
 
 use crate::baseline::BASELINE;
-use crate::cases::{ARCHIVE, COMPARE_B, COMPARE_LARGEST, LONGER_B, READ_TEXT};
+use crate::cases::{ARCHIVE, COMPARE_B, COMPARE_LARGEST, LONGER_B, READ_TEXT, REPLAY};
 use crate::erfa;
 use crate::measure::{median, Timed};
 use crate::programs::{MANY, SECOND, SINGLE};
@@ -48,6 +48,15 @@ pub fn print_two(timed: &[Timed]) {
     };
     let others = [COMPARE_LARGEST, COMPARE_B, LONGER_B].map(|what| by_second(timed, what));
     print("two lists", [most].into_iter().chain(others));
+}
+
+/// A line of a day beside the second program, for which there is no target.
+pub fn print_replay(timed: &[Timed]) {
+    let line = Line {
+        target: Target::None,
+        ..by_second(timed, REPLAY)
+    };
+    print("list B, a day replayed", [line]);
 }
 
 fn print(title: &str, lines: impl IntoIterator<Item = Line>) {

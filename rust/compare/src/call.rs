@@ -1,6 +1,7 @@
 //! A call of the interface, and what each of the two programs makes of it.
 
 use leap::ffi::{self, Words};
+use second::replay::State;
 use second::Raw;
 
 #[derive(Clone, Copy, Debug, PartialEq, Eq)]
@@ -39,6 +40,11 @@ pub enum Call {
     Longer(Vec<u8>, Vec<u8>),
     /// Whether the first schedule extends the second.
     Extends(Box<Words>, Box<Words>),
+    /// The current and the stored schedule, a piece of a trace, and the room for
+    /// what its lines print.
+    Replay(Box<Words>, Box<Words>, Vec<u8>, usize),
+    /// What is left of a trace, and the room for what its end prints.
+    ReplayEnd(Vec<u8>, usize),
 }
 
 /// All that a call returns or may change.
@@ -48,7 +54,7 @@ pub struct Outcome {
     /// The output numbers, in their order in the header. A part stands as its
     /// start's place in the bytes of `Beside`, and its length.
     pub values: Vec<i128>,
-    /// A reader's schedule.
+    /// A reader's schedule, or a replay's two.
     pub words: Vec<u32>,
     /// A writer's room, with `GUARD` bytes on either side of it.
     pub bytes: Vec<u8>,
@@ -111,6 +117,8 @@ impl Call {
             Call::Compare(..) => "compare_text",
             Call::Longer(..) => "longer_text",
             Call::Extends(..) => "extends",
+            Call::Replay(..) => "replay",
+            Call::ReplayEnd(..) => "replay_end",
         }
     }
 
@@ -229,6 +237,20 @@ pub fn archive(call: &Call) -> Outcome {
             let number = ffi::extends(longer, shorter, &mut yes);
             answer(number, vec![yes.into()])
         }
+        Call::Replay(current, stored, trace, room) => {
+            let (mut current, mut stored) = (**current, **stored);
+            let mut bytes = filled_bytes(room + 2 * GUARD);
+            let out = &mut bytes[GUARD..GUARD + room];
+            let mut used = FILL;
+            let number = ffi::replay(&mut current, &mut stored, trace, out, &mut used, &mut value);
+            replaying(number, [used, value], &current, &stored, bytes)
+        }
+        Call::ReplayEnd(left, room) => {
+            let mut bytes = filled_bytes(room + 2 * GUARD);
+            let out = &mut bytes[GUARD..GUARD + room];
+            let number = ffi::replay_end(left, out, &mut value);
+            writing(number, value, bytes)
+        }
     }
 }
 
@@ -287,6 +309,21 @@ pub fn second(call: &Call) -> Outcome {
             let (number, yes) = second::extends(&longer, &shorter);
             answer(number, vec![yes.into()])
         }
+        Call::Replay(current, stored, trace, room) => {
+            let [current, stored] = [current, stored].map(|words| Raw::from_words(words));
+            let mut state = State::new(current, stored);
+            let mut bytes = filled_bytes(room + 2 * GUARD);
+            let out = &mut bytes[GUARD..GUARD + room];
+            let (number, used, written) = second::replay::replay(&mut state, trace, out);
+            let [current, stored] = [state.current(), state.stored()].map(Raw::to_words);
+            replaying(number, [used, written], &current, &stored, bytes)
+        }
+        Call::ReplayEnd(left, room) => {
+            let mut bytes = filled_bytes(room + 2 * GUARD);
+            let out = &mut bytes[GUARD..GUARD + room];
+            let (number, written) = second::replay::replay_end(left, out);
+            writing(number, written, bytes)
+        }
     }
 }
 
@@ -304,6 +341,21 @@ fn writing(number: u8, written: u64, bytes: Vec<u8>) -> Outcome {
         number,
         values: vec![written.into()],
         words: Vec::new(),
+        bytes,
+    }
+}
+
+fn replaying(
+    number: u8,
+    values: [u64; 2],
+    current: &Words,
+    stored: &Words,
+    bytes: Vec<u8>,
+) -> Outcome {
+    Outcome {
+        number,
+        values: values.map(i128::from).to_vec(),
+        words: [&current[..], &stored[..]].concat(),
         bytes,
     }
 }

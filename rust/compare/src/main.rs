@@ -13,94 +13,43 @@ mod many;
 mod pairs;
 mod paste;
 mod random;
+mod replays;
 mod schedules;
 mod shrink;
 mod smaller;
+mod sources;
 mod tally;
 mod texts;
 mod times;
+mod traces;
 
 use std::process::ExitCode;
 
-use call::{archive, second, Call, Format, Kind, Program, Question};
+use call::{archive, second, Call, Format, Kind, Outcome, Program, Question};
 use many::Many;
 use pairs::Pair;
 use random::Random;
+use replays::{Day, Ended, Playing};
 use shrink::shrink;
+use sources::Make::{Contradiction, Extension, List, Trace, Two, Words};
+use sources::{Cuts, Make, MakePair, SOURCES};
 use tally::{Tally, EVERY_ROOM, LONGEST, TWO_LISTS};
+use tally::{BYTE_BY_BYTE, CUT_EVERYWHERE, CUT_SHORT, EMPTY_TRACES, TRACES, WITHOUT_LF};
 use texts::COMPARISON_ROOM;
 
-const CALLS: u64 = 550_000;
+const CALLS: u64 = 1_200_000;
 const SEED: u64 = 1972;
-
-/// Lists or schedules of one kind, and their share of the calls.
-struct Source {
-    name: &'static str,
-    share: u64,
-    make: Make,
-}
-
-type MakeWords = fn(&mut Random) -> Box<leap::ffi::Words>;
-type MakePair = fn(&mut Random) -> (Box<leap::ffi::Words>, Box<leap::ffi::Words>);
-
-enum Make {
-    List(Format, fn(&mut Random) -> Vec<u8>),
-    /// Written, and asked all questions.
-    Words(MakeWords),
-    /// The first extends the second.
-    Extension(MakePair),
-    Contradiction(MakePair),
-    /// Compared, and the longer handed back.
-    Two(texts::Kind),
-}
-
-use Make::{Contradiction, Extension, List, Two, Words};
-
-#[rustfmt::skip]
-const SOURCES: [Source; 36] = [
-    Source { name: "text, valid", share: 3, make: List(Format::Text, lists::text::valid) },
-    Source { name: "text, damaged", share: 6, make: List(Format::Text, lists::text::broken) },
-    Source { name: "text, near a limit", share: 3, make: List(Format::Text, lists::text::limit) },
-    Source { name: "text, random bytes", share: 6, make: List(Format::Text, lists::text::random) },
-    Source { name: "nybbles, valid", share: 3, make: List(Format::Nybbles, lists::nybbles::valid) },
-    Source { name: "nybbles, preferred", share: 1, make: List(Format::Nybbles, lists::nybbles::preferred) },
-    Source { name: "nybbles, damaged", share: 6, make: List(Format::Nybbles, lists::nybbles::broken) },
-    Source { name: "nybbles, near a limit", share: 3, make: List(Format::Nybbles, lists::nybbles::limit) },
-    Source { name: "nybbles, random bytes", share: 6, make: List(Format::Nybbles, lists::nybbles::random) },
-    Source { name: "schedules, ordinary", share: 8, make: Words(schedules::ordinary) },
-    Source { name: "schedules, dense", share: 8, make: Words(schedules::dense) },
-    Source { name: "schedules, negative", share: 8, make: Words(schedules::negative) },
-    Source { name: "schedules, sparse", share: 8, make: Words(schedules::sparse) },
-    Source { name: "schedules, of 01", share: 6, make: Words(schedules::known) },
-    Source { name: "malformed, count", share: 3, make: Words(schedules::bad_count) },
-    Source { name: "malformed, sign", share: 3, make: Words(schedules::bad_sign) },
-    Source { name: "malformed, month", share: 3, make: Words(schedules::bad_month) },
-    Source { name: "malformed, unused place", share: 2, make: Words(schedules::bad_unused) },
-    Source { name: "malformed, gap", share: 4, make: Words(schedules::bad_gap) },
-    Source { name: "malformed, expiry", share: 3, make: Words(schedules::bad_expiry) },
-    Source { name: "pairs, extended", share: 8, make: Extension(pairs::extended) },
-    Source { name: "pairs, cut short", share: 6, make: Extension(pairs::cut_short) },
-    Source { name: "pairs, contradicting", share: 4, make: Contradiction(pairs::contradicting) },
-    Source { name: "two lists, the same", share: 3, make: Two(texts::SAME) },
-    Source { name: "two lists, one with a later expiry only", share: 5, make: Two(texts::LATER_EXPIRY) },
-    Source { name: "two lists, one with a leap at the other's expiry", share: 5, make: Two(texts::LEAP_AT_EXPIRY) },
-    Source { name: "two lists, one that extends the other", share: 5, make: Two(texts::EXTENDED) },
-    Source { name: "two lists, contradicting in the first leap", share: 5, make: Two(texts::PARTED_AT_FIRST) },
-    Source { name: "two lists, contradicting in the last leap", share: 5, make: Two(texts::PARTED_AT_LAST) },
-    Source { name: "two lists, contradicting", share: 5, make: Two(texts::CONTRADICTING) },
-    Source { name: "two lists, of 256 leaps, none shared", share: 2, make: Two(texts::NONE_SHARED) },
-    Source { name: "two lists, unrelated", share: 5, make: Two(texts::UNRELATED) },
-    Source { name: "two lists, the first refused", share: 4, make: Two(texts::FIRST_REFUSED) },
-    Source { name: "two lists, the second refused", share: 4, make: Two(texts::SECOND_REFUSED) },
-    Source { name: "two lists, both refused", share: 4, make: Two(texts::BOTH_REFUSED) },
-    Source { name: "two lists, one a damaged copy", share: 7, make: Two(texts::DAMAGED) },
-];
 
 /// Both programs, by name.
 const PROGRAMS: [(&str, Program); 2] = [("the archive", archive), ("the second program", second)];
 
 /// Compares the outcomes of a call, and counts it.
 fn compare(call: &Call, tally: &mut Tally) -> Result<(), String> {
+    compared(call, tally).map(|_| ())
+}
+
+/// Compares the outcomes of a call, counts it, and gives the one of both.
+fn compared(call: &Call, tally: &mut Tally) -> Result<Outcome, String> {
     if std::env::var_os("COMPARE_TRACE").is_some() {
         eprint!("{}", paste::made(call));
     }
@@ -116,7 +65,7 @@ fn compare(call: &Call, tally: &mut Tally) -> Result<(), String> {
     if let Some(verdict) = call.verdict(&expected) {
         tally.meet(verdict);
     }
-    Ok(())
+    Ok(expected)
 }
 
 /// Asks the questions once more, those of each kind in one call.
@@ -255,6 +204,101 @@ fn use_two(kind: &texts::Kind, random: &mut Random, tally: &mut Tally) -> Result
     }
 }
 
+/// Replays a day in pieces of these sizes, as the header's loop does, into rooms
+/// of any size.
+fn play(
+    day: &Day,
+    sizes: &[usize],
+    random: &mut Random,
+    tally: &mut Tally,
+) -> Result<Ended, String> {
+    let mut playing = Playing::of(day);
+    let mut rest = &day.trace[..];
+    for &size in sizes {
+        let piece;
+        (piece, rest) = rest.split_at(size);
+        playing.read(piece);
+        loop {
+            let outcome = compared(&playing.call(traces::room(random)), tally)?;
+            playing = playing.after(&outcome);
+            if outcome.number == 0 && outcome.values[0] == 0 {
+                break;
+            }
+        }
+        if playing.keep() {
+            tally.meet(CUT_SHORT);
+        }
+    }
+    loop {
+        let outcome = compared(&playing.end_call(traces::end_room(random)), tally)?;
+        if outcome.number == 0 {
+            return Ok(playing.ended(&outcome));
+        }
+    }
+}
+
+/// Counts the lines of a day by their kinds. Cut at each line end it prints what
+/// it prints at once.
+fn count_lines(day: &Day, whole: &Ended, tally: &mut Tally) -> Result<(), String> {
+    let printed = day.line_by_line(|line, printed| {
+        for (name, is) in replays::KINDS {
+            if is(line, printed) {
+                tally.meet(name);
+            }
+        }
+    });
+    tally.meet(TRACES);
+    if day.trace.is_empty() {
+        tally.meet(EMPTY_TRACES);
+    }
+    if !day.left().is_empty() {
+        tally.meet(WITHOUT_LF);
+    }
+    if printed != whole.printed {
+        return Err(format!(
+            "line by line the second program prints other lines:\n\n{}",
+            paste::day(day, &[])
+        ));
+    }
+    Ok(())
+}
+
+/// Replays a trace at once, and in pieces, which must come to the same.
+fn use_trace(
+    cuts: Cuts,
+    make: fn(&mut Random) -> Vec<u8>,
+    random: &mut Random,
+    tally: &mut Tally,
+) -> Result<(), String> {
+    let day = Day {
+        current: traces::start(random),
+        stored: traces::start(random),
+        trace: make(random),
+    };
+    compare(&day.whole(), tally)?;
+    let whole = day.by_second();
+    count_lines(&day, &whole, tally)?;
+    let length = day.trace.len();
+    let ways: Vec<Vec<usize>> = match cuts {
+        Cuts::Some => vec![traces::pieces(random, length)],
+        Cuts::All => {
+            tally.meet(CUT_EVERYWHERE);
+            tally.meet(BYTE_BY_BYTE);
+            let in_two = (0..=length).map(|cut| vec![cut, length - cut]);
+            in_two.chain([vec![1; length]]).collect()
+        }
+    };
+    for sizes in ways {
+        if play(&day, &sizes, random, tally)? != whole {
+            let test = paste::day(&day, &sizes);
+            return Err(format!(
+                "in pieces a trace prints other lines, or ends with other lists:\n\n{test}"
+            ));
+        }
+    }
+    Ok(())
+}
+
 fn use_source(make: &Make, random: &mut Random, tally: &mut Tally) -> Result<(), String> {
     match *make {
         List(format, make) => compare(&Call::Read(format, make(random)), tally),
@@ -262,6 +306,7 @@ fn use_source(make: &Make, random: &mut Random, tally: &mut Tally) -> Result<(),
         Extension(make) => use_extension(make, random, tally),
         Contradiction(make) => use_contradiction(make, random, tally),
         Two(ref kind) => use_two(kind, random, tally),
+        Trace(cuts, make) => use_trace(cuts, make, random, tally),
     }
 }
 

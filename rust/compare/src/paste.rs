@@ -7,6 +7,7 @@ use crate::call::{
 };
 use crate::many::{Many, EDGE, FILL_NUMBER};
 use crate::pairs::Pair;
+use crate::replays::Day;
 
 /// A test of that name with these lines in it.
 fn test(name: &str, lines: Vec<String>) -> String {
@@ -16,12 +17,20 @@ fn test(name: &str, lines: Vec<String>) -> String {
 
 /// An array of 514 words, by those that are not 0.
 fn words_lines(name: &str, words: &[u32]) -> Vec<String> {
+    let mut lines = lent_words_lines(name, words);
+    if lines.len() == 1 {
+        lines = vec![format!("let {name} = [0; 514];")];
+    }
+    lines
+}
+
+/// The same, for a call that may change them.
+fn lent_words_lines(name: &str, words: &[u32]) -> Vec<String> {
     let set: Vec<String> = (words.iter().enumerate())
         .filter(|(_, &word)| word != 0)
         .map(|(at, word)| format!("{name}[{at}] = {word};"))
         .collect();
-    let mutable = if set.is_empty() { "" } else { "mut " };
-    let mut lines = vec![format!("let {mutable}{name} = [0; 514];")];
+    let mut lines = vec![format!("let mut {name} = [0; 514];")];
     lines.extend(set.chunks(5).map(|some| some.join(" ")));
     lines
 }
@@ -111,6 +120,23 @@ fn call_lines(call: &Call, got: &str) -> Vec<String> {
             lets.push(format!("let mut yes = {:#x};", FILL as u8));
             (lets, "&longer, &shorter, &mut yes".to_string(), "yes")
         }
+        Call::Replay(current, stored, trace, room) => {
+            let (room, lent) = lent_room(*room);
+            let mut lets = lent_words_lines("current", &current[..]);
+            lets.extend(lent_words_lines("stored", &stored[..]));
+            lets.extend(room);
+            lets.push(format!("let mut used = {FILL:#x};"));
+            let lent = lent.replace("&mut written", "&mut used, &mut written");
+            (
+                lets,
+                format!("&mut current, &mut stored, {}, {lent}", bytes(trace)),
+                "used, written",
+            )
+        }
+        Call::ReplayEnd(left, room) => {
+            let (lets, lent) = lent_room(*room);
+            (lets, format!("{}, {lent}", bytes(left)), "written")
+        }
         Call::Ask(words, question) => {
             let (first, second) = (question.first, question.second);
             let (fill, arguments, values) = match question.kind {
@@ -144,7 +170,8 @@ fn call_lines(call: &Call, got: &str) -> Vec<String> {
 /// A writer's room with the list in it and all else as it was.
 fn room_lines(outcome: &Outcome) -> Vec<String> {
     let length = outcome.bytes.len();
-    let written = outcome.values[0] as usize;
+    // The count is the last of the numbers.
+    let written = outcome.values.last().map_or(0, |&n| n as usize);
     let fill = format!("expected: [u8; {length}] = std::array::from_fn(|i| i as u8 ^ 0xa5);");
     if written == 0 {
         return vec![format!("let {fill}")];
@@ -167,24 +194,60 @@ pub fn call(call: &Call) -> String {
         tuple(&expected),
         tuple(&got)
     ));
-    let (expected, differ) = match call {
+    let (lines_expected, differ) = match call {
         Call::Ask(..) | Call::Longer(..) | Call::Extends(..) => (Vec::new(), String::new()),
         Call::Read(..) => (
             words_lines("expected", &expected.words),
             differences(&got.words, &expected.words),
         ),
-        Call::Write(..) | Call::Compare(..) => (
+        Call::Write(..) | Call::Compare(..) | Call::Replay(..) | Call::ReplayEnd(..) => (
             room_lines(&expected),
             differences(&got.bytes, &expected.bytes),
         ),
     };
-    if !expected.is_empty() {
-        lines.extend(expected);
+    if !lines_expected.is_empty() {
+        lines.extend(lines_expected);
         lines.push(format!(
             "assert_eq!(out, expected); // the archive gave {differ}"
         ));
     }
+    if let Call::Replay(..) = call {
+        for (name, at) in [("current", 0..514), ("stored", 514..1_028)] {
+            let differ = differences(&got.words[at.clone()], &expected.words[at.clone()]);
+            lines.extend(words_lines("expected", &expected.words[at]));
+            lines.push(format!(
+                "assert_eq!({name}, expected); // the archive gave {differ}"
+            ));
+        }
+    }
     test(&format!("{}_as_the_second_program", call.name()), lines)
+}
+
+/// A trace in pieces of these sizes, or at once, that does not print or leave
+/// what the second program says of the whole.
+pub fn day(day: &Day, sizes: &[usize]) -> String {
+    let expected = day.by_second();
+    let mut lines = words_lines("current", &day.current[..]);
+    lines.extend(words_lines("stored", &day.stored[..]));
+    lines.push("let [current, stored] = [current, stored].map(leap::Schedule::from_words);".into());
+    lines.push("let mut day = leap::Replay::from_lists(current, stored);".into());
+    lines.push("let mut printed = Vec::new();".into());
+    lines.push(format!("let mut trace: &[u8] = {};", bytes(&day.trace)));
+    lines.push(format!("for size in {sizes:?} {{"));
+    lines.push("    day.feed(&trace[..size], &mut printed);".into());
+    lines.push("    trace = &trace[size..];".into());
+    lines.push("}".into());
+    lines.push("day.feed(trace, &mut printed);".into());
+    lines.push("day.end(&mut printed);".into());
+    lines.push(format!(
+        "assert_eq!(printed, {});",
+        bytes(&expected.printed)
+    ));
+    for (name, words) in [("current", &expected.current), ("stored", &expected.stored)] {
+        lines.extend(words_lines("expected", &words[..]));
+        lines.push(format!("assert_eq!(day.{name}().words(), &expected);"));
+    }
+    test("a_day_as_the_second_program", lines)
 }
 
 /// A call, to be looked at before it is made.

@@ -225,6 +225,30 @@ impl Shrink for Call {
                     shorters.map(|edit| Call::Extends(longer.clone(), edited(shorter, edit)));
                 Box::new(both.chain(longers).chain(shorters))
             }
+            Call::Replay(current, stored, trace, room) => {
+                let call = |current: &Words, stored: &Words, trace: Vec<u8>, room| {
+                    Call::Replay(Box::new(*current), Box::new(*stored), trace, room)
+                };
+                let shorter = smaller::traces(trace);
+                let shorter = shorter.map(move |trace| call(current, stored, trace, *room));
+                let currents = edits(current)
+                    .into_iter()
+                    .map(move |edit| call(&edited(current, edit), stored, trace.clone(), *room));
+                let storeds = edits(stored)
+                    .into_iter()
+                    .map(move |edit| call(current, &edited(stored, edit), trace.clone(), *room));
+                let rooms = lower(*room as u64).into_iter();
+                let tighter =
+                    rooms.map(move |room| call(current, stored, trace.clone(), room as usize));
+                Box::new(shorter.chain(currents).chain(storeds).chain(tighter))
+            }
+            Call::ReplayEnd(left, room) => {
+                let shorter = smaller::traces(left);
+                let shorter = shorter.map(move |left| Call::ReplayEnd(left, *room));
+                let rooms = lower(*room as u64).into_iter();
+                let tighter = rooms.map(|room| Call::ReplayEnd(left.clone(), room as usize));
+                Box::new(shorter.chain(tighter))
+            }
         }
     }
 }

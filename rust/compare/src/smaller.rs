@@ -165,6 +165,42 @@ pub fn two_lists(one: &[u8], other: &[u8]) -> Vec<(Vec<u8>, Vec<u8>)> {
     all
 }
 
+/// Runs of a length to take out of so many things, the longest first.
+fn runs(length: usize) -> impl Iterator<Item = std::ops::Range<usize>> {
+    let sizes = std::iter::successors(Some(length), |size| Some(size / 2));
+    let sizes = sizes.take_while(|&size| size > 0);
+    sizes.flat_map(move |size| {
+        let starts = (0..=length - size).step_by((size / 2).max(1));
+        starts.map(move |at| at..at + size)
+    })
+}
+
+/// Traces with lines or bytes taken out, or a byte simpler. They are made one by
+/// one, since a trace may be long.
+pub fn traces(trace: &[u8]) -> impl Iterator<Item = Vec<u8>> + '_ {
+    let ends: Vec<usize> = [0]
+        .into_iter()
+        .chain(
+            (0..trace.len())
+                .filter(|&at| trace[at] == b'\n')
+                .map(|at| at + 1),
+        )
+        .collect();
+    let cut = |from: usize, to: usize| [&trace[..from], &trace[to..]].concat();
+    let lines = runs(ends.len() - 1).map(move |run| cut(ends[run.start], ends[run.end]));
+    let bytes = runs(trace.len()).map(move |run| cut(run.start, run.end));
+    let simpler = (0..trace.len()).flat_map(move |at| {
+        let simpler = b"129+-?a".iter().copied();
+        let lower = move |&byte: &u8| rank(Format::Text, byte) < rank(Format::Text, trace[at]);
+        simpler.filter(lower).map(move |byte| {
+            let mut other = trace.to_vec();
+            other[at] = byte;
+            other
+        })
+    });
+    lines.chain(bytes).chain(simpler)
+}
+
 /// Lists that are shorter or, at the same length, simpler; the boldest first.
 pub fn lists(format: Format, list: &[u8]) -> Vec<Vec<u8>> {
     let units = units(format, list);

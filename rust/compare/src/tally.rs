@@ -4,9 +4,11 @@ use std::collections::BTreeMap;
 use std::fmt;
 
 use crate::call::{EXTENDS, EXTENDS_NOT, FIRST_IS_LONGER, SECOND_IS_LONGER, VERDICTS};
+use crate::replays;
 
-/// The numbers that 01 and 7/14 let each function return, or put into an array.
-const RESULTS: [(&str, &[u8]); 17] = [
+/// The numbers that 01, 7/14 and 12/14 let each function return, or put into an
+/// array.
+const RESULTS: [(&str, &[u8]); 19] = [
     ("read_text", &[0, 1, 2, 3, 4, 5, 6]),
     ("read_nybbles", &[0, 1, 3, 4, 5, 6]),
     ("write_text", &[0, 7, 11]),
@@ -24,6 +26,8 @@ const RESULTS: [(&str, &[u8]); 17] = [
     ("compare_text", &[0, 1, 2, 3, 4, 5, 6, 7]),
     ("longer_text", &[0, 1, 2, 3, 4, 5, 6, 16]),
     ("extends", &[0, 11]),
+    ("replay", &[0, 7]),
+    ("replay_end", &[0, 7]),
 ];
 
 /// Two text lists were compared.
@@ -33,12 +37,38 @@ pub const EVERY_ROOM: &str = "two text lists with every room up to what they nee
 /// Their comparison was as long as any can be.
 pub const LONGEST: &str = "a comparison of 4629 bytes";
 
+/// A trace was replayed.
+pub const TRACES: &str = "traces";
+/// A trace of no bytes was.
+pub const EMPTY_TRACES: &str = "a trace of no bytes";
+/// A trace's last line lacked its LF.
+pub const WITHOUT_LF: &str = "a trace whose last line lacks its LF";
+/// A trace was cut in two at every byte in turn.
+pub const CUT_EVERYWHERE: &str = "a trace cut in two at every byte";
+/// A trace came byte by byte.
+pub const BYTE_BY_BYTE: &str = "a trace byte by byte";
+/// A line that is not complete was over 4,097 bytes long.
+pub const CUT_SHORT: &str = "a line of which the start was kept";
+
 /// What else must be met.
 fn to_meet() -> impl Iterator<Item = &'static str> {
     let verdicts = VERDICTS.iter().map(|verdict| verdict.1);
     let others = [FIRST_IS_LONGER, SECOND_IS_LONGER, EXTENDS, EXTENDS_NOT];
     let lists = [TWO_LISTS, EVERY_ROOM, LONGEST];
-    verdicts.chain(others).chain(lists)
+    let lines = replays::KINDS.iter().map(|kind| kind.0);
+    let traces = [
+        EMPTY_TRACES,
+        WITHOUT_LF,
+        CUT_EVERYWHERE,
+        BYTE_BY_BYTE,
+        CUT_SHORT,
+        TRACES,
+    ];
+    verdicts
+        .chain(others)
+        .chain(lists)
+        .chain(lines)
+        .chain(traces)
 }
 
 pub struct Tally {
@@ -88,8 +118,8 @@ impl Tally {
         self.sources.iter().map(|source| source.1).sum()
     }
 
-    /// The sources, the results of 01 and 7/14 and the other things that no call
-    /// had.
+    /// The sources, the results of 01, 7/14 and 12/14 and the other things that no
+    /// call had.
     pub fn missing(&self) -> Vec<String> {
         let sources = self.sources.iter().filter(|source| source.1 == 0);
         let results = RESULTS

@@ -96,6 +96,23 @@ extern "C" {
         micros: *mut u64,
         micros_length: usize,
     ) -> u64;
+    fn leap_replay(
+        current: *mut Words,
+        stored: *mut Words,
+        trace: *const u8,
+        length: usize,
+        out: *mut u8,
+        room: usize,
+        used: *mut u64,
+        written: *mut u64,
+    ) -> u8;
+    fn leap_replay_end(
+        left: *const u8,
+        length: usize,
+        out: *mut u8,
+        room: usize,
+        written: *mut u64,
+    ) -> u8;
 }
 
 /// Reads a text list. `place` is the byte of a refusal.
@@ -307,6 +324,47 @@ pub fn uts_to_utc_many(
             numbers.len(),
             micros.as_mut_ptr(),
             micros.len(),
+        )
+    }
+}
+
+/// Replays the complete lines of a piece of a trace, as long as a line has room;
+/// `used` is how many bytes of the piece they are, `written` how many of `out`
+/// they printed.
+pub fn replay(
+    current: &mut Words,
+    stored: &mut Words,
+    trace: &[u8],
+    out: &mut [u8],
+    used: &mut u64,
+    written: &mut u64,
+) -> u8 {
+    // SAFETY: see above; the length and the room are the slices' own.
+    unsafe {
+        leap_replay(
+            current,
+            stored,
+            trace.as_ptr(),
+            trace.len(),
+            out.as_mut_ptr(),
+            out.len(),
+            used,
+            written,
+        )
+    }
+}
+
+/// Writes what the end of a trace prints, where `left` stands after its last LF;
+/// `written` is its length.
+pub fn replay_end(left: &[u8], out: &mut [u8], written: &mut u64) -> u8 {
+    // SAFETY: see above; the length and the room are the slices' own.
+    unsafe {
+        leap_replay_end(
+            left.as_ptr(),
+            left.len(),
+            out.as_mut_ptr(),
+            out.len(),
+            written,
         )
     }
 }

@@ -15,7 +15,7 @@
 //! # Ok::<(), leap::ReadError>(())
 //! ```
 //!
-//! What has no answer is refused, with one of the twelve numbers of [`Refusal`]:
+//! What has no answer is refused, with one of the thirteen numbers of [`Refusal`]:
 //!
 //! ```
 //! use leap::{Mjd, ReadError, Refusal, Schedule};
@@ -92,6 +92,20 @@
 //! # Ok::<(), leap::ReadError>(())
 //! ```
 //!
+//! A branch's day is replayed from its trace, in pieces of any size:
+//!
+//! ```
+//! use leap::Replay;
+//!
+//! let mut day = Replay::new();
+//! let mut printed = Vec::new();
+//! // Use a list, and ask for smoothed time.
+//! day.feed(b"L 6+5?\nQ 41498 864000", &mut printed);
+//! day.feed(b"00000\nQ yesterday\n", &mut printed);
+//! day.end(&mut printed);
+//! assert_eq!(printed, b"41498 86399001000000\n!20\n");
+//! ```
+//!
 //! The counts of the three time scales are types of their own, so that none is
 //! put in another's place:
 //!
@@ -109,8 +123,10 @@ mod compare;
 pub mod ffi;
 mod many;
 mod refusal;
+mod replay;
 mod schedule;
 
 pub use compare::{compare, longer};
 pub use refusal::{ReadError, Refusal};
+pub use replay::Replay;
 pub use schedule::{Leap, Mjd, Schedule, Sign, TaiMicros, UtcMicros, UtsNanos};

@@ -3,7 +3,7 @@
 use std::error::Error;
 use std::fmt;
 
-/// The twelve refusals, each with its number.
+/// The thirteen refusals, each with its number.
 #[derive(Clone, Copy, Debug, PartialEq, Eq, PartialOrd, Ord, Hash)]
 #[repr(u8)]
 pub enum Refusal {
@@ -19,7 +19,8 @@ pub enum Refusal {
     TooManyLeaps = 5,
     /// Something after the expiry.
     AfterEnd = 6,
-    /// The output is shorter than the list or comparison.
+    /// The output is shorter than the list, the comparison or what a line of a
+    /// trace may print.
     OutputShort = 7,
     /// MJD under 41317, or TAI under 10,000,000.
     Before1972 = 8,
@@ -31,13 +32,15 @@ pub enum Refusal {
     NotWellFormed = 11,
     /// Two lists contradict each other.
     Contradiction = 16,
+    /// No line of a trace. It is printed, as `!20`, and returned by no call.
+    NoLine = 20,
 }
 
 use Refusal::*;
 
 impl Refusal {
-    /// All twelve, by number.
-    pub const ALL: [Refusal; 12] = [
+    /// All thirteen, by number.
+    pub const ALL: [Refusal; 13] = [
         EndsEarly,
         NotAllowed,
         BadGap,
@@ -50,9 +53,10 @@ impl Refusal {
         NotKnown,
         NotWellFormed,
         Contradiction,
+        NoLine,
     ];
 
-    /// The refusal's number: 1 to 11, or 16.
+    /// The refusal's number: 1 to 11, 16 or 20.
     pub fn number(self) -> u8 {
         self as u8
     }
@@ -72,12 +76,13 @@ impl fmt::Display for Refusal {
             PastLastMonth => "past month 2400, January 2172",
             TooManyLeaps => "more than 256 leaps",
             AfterEnd => "something after the end",
-            OutputShort => "the output is shorter than the list or comparison",
+            OutputShort => "the output is shorter than the list, the comparison or a replayed line",
             Before1972 => "before 1972",
             NoInstant => "no such instant",
             NotKnown => "expired or not yet known",
             NotWellFormed => "the schedule is not well formed",
             Contradiction => "the lists contradict each other",
+            NoLine => "no line of a trace",
         })
     }
 }

@@ -112,6 +112,11 @@ impl Schedule {
         &self.words
     }
 
+    /// The 514 words, lent to a call that changes them.
+    pub(crate) fn words_mut(&mut self) -> &mut Words {
+        &mut self.words
+    }
+
     /// Whether the schedule is well formed.
     pub fn check(&self) -> Result<(), Refusal> {
         // A well-formed schedule knows its first day, 1 January 1972.
@@ -280,7 +285,7 @@ impl fmt::Debug for Schedule {
 pub(crate) fn answer(number: u8) -> Result<(), Refusal> {
     match number {
         0 => Ok(()),
-        _ => Err(Refusal::from_number(number).expect("the archive refuses with 1 to 11 or 16")),
+        _ => Err(Refusal::from_number(number).expect("the archive refuses with 1 to 11, 16 or 20")),
     }
 }
 

@@ -43,7 +43,7 @@ fn the_longest_comparison_fits() {
     assert!(comparison.ends_with("\n1509 + 0\n= 2399 2400\ncontradict\n"));
     assert_eq!(comparison.len(), 510 * 9 + 2 * 8 + 12 + 11);
     assert_eq!(comparison.len(), 4_629);
-    assert!(HEADER.contains("LEAP_COMPARISON_ROOM = 4629 "));
+    assert!(HEADER.contains("LEAP_COMPARISON_ROOM = 4629,"));
     let (first, second) = (first.as_bytes(), second.as_bytes());
     assert_eq!(leap::longer(first, second), Err(Refusal::Contradiction));
 }

@@ -44,12 +44,17 @@ fn refusals_have_the_header_s_numbers() {
         .iter()
         .map(|r| (format!("{r:?}").to_lowercase(), r.number()))
         .collect();
-    let in_header: Vec<(String, u8)> = HEADER
+    // The first enum of the header has the numbers, the second rooms and counts.
+    let numbers = HEADER
+        .split("enum {")
+        .nth(1)
+        .expect("the header has an enum");
+    let in_header: Vec<(String, u8)> = numbers
         .lines()
         .filter_map(|line| line.trim().strip_prefix("LEAP_")?.split_once(" = "))
         .filter_map(|(name, rest)| {
             let digits: String = rest.chars().take_while(char::is_ascii_digit).collect();
-            // A room or a count is more than a byte holds, and LEAP_OK is 0.
+            // LEAP_OK is 0.
             let number = digits.parse().ok().filter(|&n: &u8| n > 0)?;
             Some((name.replace('_', "").to_lowercase(), number))
         })
@@ -57,13 +62,13 @@ fn refusals_have_the_header_s_numbers() {
     assert_eq!(named, in_header);
     assert_eq!(
         Refusal::ALL.map(Refusal::number),
-        [1, 2, 3, 4, 5, 6, 7, 8, 9, 10, 11, 16]
+        [1, 2, 3, 4, 5, 6, 7, 8, 9, 10, 11, 16, 20]
     );
     for refusal in Refusal::ALL {
         assert_eq!(Refusal::from_number(refusal.number()), Some(refusal));
     }
     assert_eq!(Refusal::from_number(0), None);
-    for number in (12..=15).chain(17..=255) {
+    for number in (12..=15).chain(17..=19).chain(21..=255) {
         assert_eq!(Refusal::from_number(number), None);
     }
 }

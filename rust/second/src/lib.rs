@@ -8,7 +8,7 @@
 //! Means used here: the calendar is walked a day at a time; a schedule is a
 //! strip of months, each with its leap; TAI is elapsed time summed month by
 //! month; UTS is document 002's own algorithm; both ways back are searches; two
-//! lists are compared a month at a time.
+//! lists are compared a month at a time; a trace is replayed a line at a time.
 
 #![forbid(unsafe_code)]
 
@@ -21,6 +21,7 @@ pub mod months;
 pub mod nybbles;
 pub mod plain;
 pub mod refusal;
+pub mod replay;
 pub mod schedule;
 pub mod smooth;
 pub mod text;

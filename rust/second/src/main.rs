@@ -2,6 +2,7 @@
 //! `second plain`     the figures in the lines of the proved program (see plain.rs)
 //! `second months`    the month of every day in the lines of the proved program (see months.rs)
 //! `second ask`       a question a line from standard input, an answer a line
+//! `second replay`    a trace from standard input, what its lines print (see replay.rs)
 //! `second WORD ..`   one question of `ask` given as arguments, which a space
 //!                    joins to a line; what `ask` joins by `; ` is then
 //!                    printed a line each
@@ -17,7 +18,7 @@ use std::os::unix::ffi::OsStrExt;
 use std::process::ExitCode;
 
 use second::ask::{self, Desk, Reply};
-use second::{figures, months, plain};
+use second::{figures, months, plain, replay};
 
 fn print(lines: &[String], status: u8) -> io::Result<ExitCode> {
     let mut out = io::stdout().lock();
@@ -55,6 +56,9 @@ fn main() -> io::Result<ExitCode> {
         [b"plain"] => print(&plain::lines(), 0),
         [b"months"] => print(&months::lines(), 0),
         [b"ask"] => ask::run(io::stdin().lock(), io::stdout().lock()).map(|()| ExitCode::SUCCESS),
+        [b"replay"] => {
+            replay::run(io::stdin().lock(), io::stdout().lock()).map(|()| ExitCode::SUCCESS)
+        }
         _ => single(&words),
     }
 }

@@ -2,19 +2,22 @@
 use borrow.Author.Needs.{needs}
 use native.Mathlib.Omega.{arith}
 use Prim.Native.Nat.{_-_}
+use mathlib.Core.Path.{refl}
 use lib.ListN.{length}
-use Rattle.command.proofs.Going.{Going, start, kept, full, end-inside, last, before-end, step}
+use Rattle.format.proofs.Putting.{up-to, a-byte}
+use Rattle.stream.proofs.Streams.{Going, begin, kept, full, end-inside, last, before-end, step}
+use Rattle.command.specs.Lines.{answerLine, asking}
 use Rattle.command.proofs.answer_lines.Statement.{statement}
 use Rattle.command.proofs.answer_lines.Tie as tie
 
 abbrev Inv-loop : tie.InvT-loop
-Inv-loop input out₀ used₀ written₀ out used written = Going input out₀ out used written
+Inv-loop input out₀ used₀ written₀ out used written = Going asking tt input out₀ out tt used written
 
 abbrev μ-loop : tie.MeasureT-loop
 μ-loop input out₀ used₀ written₀ out used written = length input - used
 
 loop-holds : tie.Need-loop-holds Inv-loop μ-loop
-loop-holds c = start _ _
+loop-holds c = begin asking tt _ _
 
 sub-loop : tie.Need-sub-loop Inv-loop μ-loop
 sub-loop c =
@@ -24,14 +27,14 @@ sub-loop c =
 same-length : tie.Need-same-length Inv-loop μ-loop
 same-length c =
     let loop = c .before .before .before .loop in
-    kept (loop .inv)
+    kept asking (loop .inv)
 
 returns : tie.Need-returns Inv-loop μ-loop
 returns c =
     let loop = c .before .before .before .loop in
     let part-end = c .before .part-end in
     let if1 = c .if1 in
-    last (loop .inv) (part-end .ensures) (if1 .taken)
+    last asking (loop .inv) (part-end .ensures) (if1 .taken)
 
 sub-put-answer : tie.Need-sub-put-answer Inv-loop μ-loop
 sub-put-answer c =
@@ -47,14 +50,14 @@ part-put-answer-end : tie.Need-part-put-answer-end Inv-loop μ-loop
 part-put-answer-end c =
     let part-end = c .before .before .part-end in
     let loop = c .before .before .before .before .loop in
-    omega (arith, part-end .ensures, end-inside (loop .inv) (part-end .ensures))
+    omega (arith, part-end .ensures, end-inside asking (loop .inv) (part-end .ensures))
 
 add-used : tie.Need-add-used Inv-loop μ-loop
 add-used c =
     let loop = c .before .before .before .before .before .before .before .before .before .before .before .before .loop in
     let part-end = c .before .before .before .before .before .before .before .before .before .before .part-end in
     let if1 = c .before .before .before .before .before .before .before .before .before .if1 in
-    let inside = before-end (loop .inv) (part-end .ensures) (if1 .left) in
+    let inside = before-end asking (loop .inv) (part-end .ensures) (if1 .left) in
     search needs
 
 loop-less : tie.Need-loop-less Inv-loop μ-loop
@@ -62,9 +65,10 @@ loop-less c =
     let part-end = c .before .before .before .before .before .before .before .before .before .before .part-end in
     let loop = c .before .before .before .before .before .before .before .before .before .before .before .before .loop in
     let if1 = c .before .before .before .before .before .before .before .before .before .if1 in
-    omega (arith, part-end .ensures, before-end (loop .inv) (part-end .ensures) (if1 .left))
+    omega (arith, part-end .ensures, before-end asking (loop .inv) (part-end .ensures) (if1 .left))
 
 loop-again : tie.Need-loop-again Inv-loop μ-loop
+unfolding answerLine
 loop-again c =
     let loop = c .before .before .before .before .before .before .before .before .before .before .before .before .loop in
     let part-end = c .before .before .before .before .before .before .before .before .before .before .part-end in
@@ -72,18 +76,18 @@ loop-again c =
     let loop-test = c .before .before .before .before .before .before .before .before .before .before .before .loop-test in
     let put-answer = c .before .before .before .before .before .before .put-answer in
     let put = c .before .before .put in
-    step (loop .inv) (part-end .ensures) (if1 .left) (loop-test .taken) (put-answer .ensures) (put .ensures)
+    step asking (loop .inv) (part-end .ensures) (if1 .left) (loop-test .taken) (up-to (put-answer .ensures) (a-byte (put .ensures)) refl (omega arith)) refl
 
 same-length-2 : tie.Need-same-length-2 Inv-loop μ-loop
 same-length-2 c =
     let loop = c .before .loop in
-    kept (loop .inv)
+    kept asking (loop .inv)
 
 returns-2 : tie.Need-returns-2 Inv-loop μ-loop
 returns-2 c =
     let loop = c .before .loop in
     let loop-test = c .loop-test in
-    full (loop .inv) (loop-test .left)
+    full asking (loop .inv) (omega (arith, loop-test .left))
 
 pub answer-lines-spec : {M : Type 1} → statement M
 answer-lines-spec =

@@ -4,7 +4,7 @@ use native.Mathlib.Omega.{arith}
 use Rattle.format.proofs.Putting.{few}
 use mathlib.Core.Path.{sym}
 use lib.Seq.{length-take-le}
-use Rattle.command.proofs.Fields.{only, first-and-rest}
+use Rattle.format.proofs.Fields.{only, first-and-rest}
 use Rattle.command.proofs.put_after_one.Statement.{statement}
 use Rattle.command.proofs.put_after_one.Tie as tie
 

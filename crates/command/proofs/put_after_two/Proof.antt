@@ -2,7 +2,8 @@
 use borrow.Author.Needs.{needs}
 use native.Mathlib.Omega.{arith}
 use Rattle.format.proofs.Putting.{few}
-use Rattle.command.proofs.Fields.{only, first-and-rest, too-many}
+use Rattle.format.proofs.Fields.{only, first-and-rest}
+use Rattle.command.proofs.Fields.{too-many}
 use Rattle.command.proofs.put_after_two.Statement.{statement}
 use Rattle.command.proofs.put_after_two.Tie as tie
 

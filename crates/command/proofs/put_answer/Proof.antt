@@ -4,7 +4,8 @@ use native.Mathlib.Omega.{arith}
 use mathlib.Core.Path.{sym, _∙_}
 use lib.Seq.{length-take-le}
 use Rattle.format.proofs.Putting.{few, text-put}
-use Rattle.command.proofs.Fields.{only, first-and-rest, long-line, in-parts}
+use Rattle.format.proofs.Fields.{only, first-and-rest}
+use Rattle.command.proofs.Fields.{long-line, in-parts}
 use Rattle.command.proofs.put_answer.Statement.{statement}
 use Rattle.command.proofs.put_answer.Tie as tie
 

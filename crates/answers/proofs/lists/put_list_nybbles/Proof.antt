@@ -5,7 +5,7 @@ use mathlib.Core.Path.{_≡_}
 use Rattle.format.proofs.Putting.{few}
 use Rattle.text.proofs.Sound.{accepted-well-formed}
 use Rattle.answers.specs.Lists.{listOf}
-use Rattle.line.specs.Refusal.{refusalAt}
+use Rattle.format.specs.Refusal.{refusalAt}
 use Rattle.schedule.proofs.ByReading.{read-refused, read-taken}
 use Rattle.answers.proofs.lists.put_list_nybbles.Statement.{statement}
 use Rattle.answers.proofs.lists.put_list_nybbles.Tie as tie

@@ -3,7 +3,7 @@ use borrow.Author.Needs.{needs}
 use native.Mathlib.Omega.{arith}
 use Rattle.format.proofs.Putting.{few}
 use Rattle.answers.specs.Times.{askedUnder}
-use Rattle.line.specs.Refusal.{refusalAt}
+use Rattle.format.specs.Refusal.{refusalAt}
 use Rattle.schedule.proofs.ByReading.{read-refused, read-taken}
 use Rattle.answers.proofs.times.put_asked.Statement.{statement}
 use Rattle.answers.proofs.times.put_asked.Tie as tie

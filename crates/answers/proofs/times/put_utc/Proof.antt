@@ -7,9 +7,9 @@ use Rattle.answers.proofs.times.put_utc.Tie as tie
 
 returns : tie.Need-returns
 returns c =
-    let put-instant = c .before .before .put-instant in
+    let put-two-numbers = c .before .before .put-two-numbers in
     let a = c .before .before .before .before .before .a in
-    few (put-instant .ensures) (rw (a .given .1)) (omega arith)
+    few (put-two-numbers .ensures) (rw (a .given .1)) (omega arith)
 
 returns-2 : tie.Need-returns-2
 returns-2 c =

@@ -2,7 +2,7 @@
 use borrow.Author.Needs.{needs}
 use native.Mathlib.Omega.{arith}
 use Rattle.format.proofs.Putting.{few}
-use Rattle.line.specs.Refusal.{refusalAt}
+use Rattle.format.specs.Refusal.{refusalAt}
 use Rattle.schedule.proofs.ByReading.{read-refused, read-taken}
 use Rattle.command.proofs.lists.put_list_shown.Statement.{statement}
 use Rattle.command.proofs.lists.put_list_shown.Tie as tie

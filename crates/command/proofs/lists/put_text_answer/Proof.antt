@@ -6,7 +6,7 @@ use Rattle.format.proofs.Putting.{few}
 use Rattle.format.specs.Hex.{unhex}
 use Rattle.nybbles.proofs.Sound.{accepted-well-formed}
 use Rattle.command.specs.Answer.{textAnswer}
-use Rattle.line.specs.Refusal.{refusalAt}
+use Rattle.format.specs.Refusal.{refusalAt}
 use Rattle.schedule.proofs.ByReading.{read-refused, read-taken}
 use Rattle.command.proofs.lists.put_text_answer.Statement.{statement}
 use Rattle.command.proofs.lists.put_text_answer.Tie as tie

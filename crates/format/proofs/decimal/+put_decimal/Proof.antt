@@ -1,5 +1,5 @@
--- `format::decimal::put_decimal` meets its contract: a number of one digit is that digit, and another is its tenth part and its last digit.
--- The number falls from call to call. Assumes nothing.
+-- `format::decimal::put_decimal` meets its contract: a number of one digit or two is these, and another is a part of it and then two digits, or
+-- eight. The number falls from call to call. Assumes nothing.
 use Prim.Native.Nat.{ℕ, _<_, _≤_}
 use borrow.Author.Needs.{needs}
 use borrow.Fn.Kinds.{In}
@@ -9,12 +9,14 @@ use lib.ListN.{length}
 use mir.Syntax.{w64}
 use mir.Val.{Fits}
 use Rattle.format.specs.Decimal.{decimal}
-use Rattle.format.proofs.Digits.{small, large, decimal-short}
-use Rattle.format.proofs.Putting.{put-byte, then-byte}
+use Rattle.format.proofs.Digits.{small, two-digits, more-digits, many-digits, decimal-short}
+use Rattle.format.proofs.Putting.{one-put, two-puts, put-byte}
 use Rattle.format.proofs.decimal.put_decimal.Reads as put-decimal
 use Rattle.format.proofs.decimal.put_decimal.Kinds as put-decimal-kinds
 use Rattle.format.proofs.decimal.+put_decimal.Lts-put_decimal as put-decimal-lts
 use Rattle.format.proofs.decimal.digit.Reads as digit-reads
+use Rattle.format.proofs.decimal.put_pair.Reads as put-pair-reads
+use Rattle.format.proofs.decimal.put_eight.Reads as put-eight-reads
 use Rattle.format.proofs.output.put.Reads as put-reads
 use Rattle.format.proofs.decimal.+put_decimal.{statement}
 use Rattle.format.proofs.decimal.+put_decimal.Tie.{close}
@@ -38,8 +40,12 @@ pub +put-decimal-spec : {M : Type 1} → statement M
   digit-reads.Learnt,
   put-reads.Asked,
   put-reads.Learnt,
+  put-pair-reads.Asked,
+  put-pair-reads.Learnt,
   put-decimal-below t,
   put-decimal.Post,
+  put-eight-reads.Asked,
+  put-eight-reads.Learnt,
 )
     (put-decimal-at t)
     put-decimal.Post
@@ -51,13 +57,31 @@ pub +put-decimal-spec : {M : Type 1} → statement M
       puts = put-byte (after .put .ensures) (after .before .digit .ensures) (small _ (after .before .before .before .if1 .taken));
       short = short (after .before .before .before .before .before .fits .n);
     })
-    (λ c κs. (omega arith, tt))
-    (λ c κs. search needs)
     (λ c κs. search needs)
     (λ c. search needs)
     (λ c. let after = c .before .before in
-    let tenth = after .before .before .before .before .before in
+    let tests = after .before .before in
     record {
-      puts = then-byte (tenth .put-decimal .ensures .puts) (after .put2 .ensures) (after .before .digit2 .ensures) (large _ (tenth .before .before .if1 .left));
-      short = short (tenth .before .before .before .before .fits .n);
+      puts = one-put (after .put-pair .ensures) (two-digits _ (tests .before .if1 .left) (tests .if2 .taken));
+      short = short (tests .before .before .before .fits .n);
+    })
+    (λ c κs. (omega arith, tt))
+    (λ c κs. search needs)
+    (λ c. search needs)
+    (λ c. let after = c .before .before in
+    let part = after .before .before .before .before in
+    let tests = part .before .before .before in
+    record {
+      puts = two-puts (part .put-decimal .ensures .puts) (after .put-pair2 .ensures) (more-digits _ (tests .if2 .left));
+      short = short (tests .before .before .before .fits .n);
+    })
+    (λ c κs. (omega arith, tt))
+    (λ c κs. search needs)
+    (λ c. search needs)
+    (λ c. let after = c .before .before in
+    let part = after .before .before .before .before in
+    let tests = part .before .before in
+    record {
+      puts = two-puts (part .put-decimal2 .ensures .puts) (after .put-eight .ensures) (many-digits _ (tests .if3 .left));
+      short = short (tests .before .before .before .before .fits .n);
     })

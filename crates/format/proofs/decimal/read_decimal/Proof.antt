@@ -39,26 +39,35 @@ digit-of-requires c κs =
 
 returns-3 : tie.Need-returns-3 Inv-loop μ-loop
 returns-3 c =
-    let is-digit = c .before .before .before .is-digit in
-    let if2 = c .before .before .if2 in
     let loop = c .before .before .before .before .before .before .loop in
     let loop-test = c .before .before .before .before .before .loop-test in
-    let digit-of = c .before .digit-of in
-    let digit = sym (is-digit .ensures) ∙ not-false _ (if2 .left) in
-    sym (loop .inv .1 .1 ∙ digits.too-large _ _ _ (loop-test .taken) digit _ (digit-of .ensures .0) (omega arith))
-
-loop-again : tie.Need-loop-again Inv-loop μ-loop
-loop-again c =
     let is-digit = c .before .before .before .is-digit in
     let if2 = c .before .before .if2 in
-    let loop = c .before .before .before .before .before .before .loop in
-    let loop-test = c .before .before .before .before .before .loop-test in
     let digit-of = c .before .digit-of in
-    let digit = sym (is-digit .ensures) ∙ not-false _ (if2 .left) in
-    (search needs, (search needs, loop .inv .1 .1 ∙ digits.more _ _ _ (loop-test .taken) digit _ (digit-of .ensures .0)))
+    let if3 = c .if3 in
+    sym (loop .inv .1 .1 ∙ digits.too-large _ _ _ (loop-test .taken) (sym (is-digit .ensures) ∙ not-false _ (if2 .left)) _ (digit-of .ensures .0) (omega (arith, if3 .taken)))
 
 returns-4 : tie.Need-returns-4 Inv-loop μ-loop
 returns-4 c =
+    let loop = c .before .before .before .before .before .before .before .loop in
+    let loop-test = c .before .before .before .before .before .before .loop-test in
+    let is-digit = c .before .before .before .before .is-digit in
+    let if2 = c .before .before .before .if2 in
+    let digit-of = c .before .before .digit-of in
+    let if4 = c .if4 in
+    sym (loop .inv .1 .1 ∙ digits.too-large _ _ _ (loop-test .taken) (sym (is-digit .ensures) ∙ not-false _ (if2 .left)) _ (digit-of .ensures .0) (omega (arith, if4 .taken)))
+
+loop-again : tie.Need-loop-again Inv-loop μ-loop
+loop-again c =
+    let loop = c .before .before .before .before .before .before .before .loop in
+    let loop-test = c .before .before .before .before .before .before .loop-test in
+    let is-digit = c .before .before .before .before .is-digit in
+    let if2 = c .before .before .before .if2 in
+    let digit-of = c .before .before .digit-of in
+    (search needs, (search needs, loop .inv .1 .1 ∙ digits.more _ _ _ (loop-test .taken) (sym (is-digit .ensures) ∙ not-false _ (if2 .left)) _ (digit-of .ensures .0)))
+
+returns-5 : tie.Need-returns-5 Inv-loop μ-loop
+returns-5 c =
     let loop = c .before .loop in
     let loop-test = c .loop-test in
     sym (loop .inv .1 .1 ∙ digits.done _ _ _ (loop-test .left) (loop .inv .1 .0))
@@ -75,11 +84,12 @@ read-decimal-spec =
     (λ c κs. search needs)
     returns-2
     digit-of-requires
-    (λ c. search needs)
     returns-3
     (λ c. search needs)
+    (λ c. search needs)
+    returns-4
     (λ c. search needs)
     (λ c. search needs)
     (λ c. search needs)
     loop-again
-    returns-4)
+    returns-5)

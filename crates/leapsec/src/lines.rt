@@ -1,0 +1,200 @@
+// The lines of standard input: questions, one a line, or a trace that is replayed. Each read is followed by the answers to all lines that are
+// then complete, so one who asks and waits is answered.
+ghost use Prim.Native.Nat.{_+_, _≤_};
+ghost use lib.ListN.{length};
+ghost use Rattle.io.specs.Counts.{Counts};
+use crate::output::print_answer;
+use crate::output::within;
+use crate::output::write;
+use libc::STDIN_FILENO;
+use stream::Step;
+
+// A line that is longer than 8,192 bytes is no question, whatever it has behind them, and one that is longer than 4,096 is no line of a trace. So
+// no more is held of a line that is not complete.
+const MOST_HELD: usize = command::MAX_LINE + 1;
+
+// What a read brought: how many bytes, 0 at the end of the input; or that it failed.
+struct Came {
+    count: usize,
+    failed: bool,
+}
+
+// How many bytes of an input are answered, and whether the answers could be written.
+struct Answered {
+    used: usize,
+    is_written: bool,
+}
+
+// How many bytes of a line that is not complete are held at the start of the buffer, and whether to go on.
+struct Rest {
+    held: usize,
+    goes_on: bool,
+}
+
+// Reads once, behind the bytes that are held. Where reading fails, that is said.
+fn read_behind(buffer: &mut [u8], held: usize) -> Came
+    requires { ⌜ held ≤ length (now buffer) ⌝ }
+    ensures { λ r. ⌜ held + r .count ≤ length (now (buffer .exit)) ⌝ }
+{
+    let got = libc::read(STDIN_FILENO, &mut buffer[held..]);
+    if got < 0 {
+        os::fail(b"leapsec: standard input");
+        return Came {
+            count: 0,
+            failed: true,
+        };
+    }
+    let count = io::count(got, &buffer[held..]);
+    Came {
+        count,
+        failed: false,
+    }
+}
+
+// Answers lines at the start of an input: questions, or the lines of a trace, which go by the two lists.
+fn answer_lines(
+    input: &[u8],
+    replays: bool,
+    current: &mut [u32; 514],
+    stored: &mut [u32; 514],
+    out: &mut [u8],
+) -> Step {
+    if replays {
+        return replay::replay(current, stored, input, out);
+    }
+    command::answer_lines(input, out)
+}
+
+// Writes the answer to a last line that has no LF: a question, or no line of a trace.
+fn print_last(line: &[u8], replays: bool) {
+    if replays {
+        let mut out = [0u8; replay::MAX_PRINTED];
+        let w = replay::replay_end(line, &mut out);
+        let n = within(w.count, &out);
+        write(&out[..n]);
+        return;
+    }
+    print_answer(line, false);
+}
+
+// Writes the answers to complete lines at the start of an input, as many as a buffer has room for. None are used where no line is complete.
+fn answer_some(
+    input: &[u8],
+    replays: bool,
+    current: &mut [u32; 514],
+    stored: &mut [u32; 514],
+) -> Answered
+    ensures { λ r. ⌜ r .used ≤ length (now (input .entry)) ⌝ }
+{
+    let mut out = io::large_buffer();
+    let step = answer_lines(input, replays, current, stored, &mut out);
+    let n = within(step.written, &out);
+    let is_written = write(&out[..n]);
+    let used = within(step.used, input);
+    Answered { used, is_written }
+}
+
+// Writes the answers to all complete lines of an input.
+fn answer_complete(
+    input: &[u8],
+    replays: bool,
+    current: &mut [u32; 514],
+    stored: &mut [u32; 514],
+) -> Answered
+    ensures { λ r. ⌜ r .used ≤ length (now (input .entry)) ⌝ }
+{
+    let mut used: usize = 0;
+    while used < input.len() {
+        let some = answer_some(&input[used..], replays, current, stored);
+        if !some.is_written {
+            return Answered {
+                used,
+                is_written: false,
+            };
+        }
+        if some.used == 0 {
+            return Answered {
+                used,
+                is_written: true,
+            };
+        }
+        used += some.used;
+    }
+    Answered {
+        used,
+        is_written: true,
+    }
+}
+
+fn least(a: usize, b: usize) -> usize
+    ensures { λ r. ⌜ (r ≤ a) × (r ≤ b) ⌝ }
+{
+    if a < b { a } else { b }
+}
+
+// Moves the start of a line that is not complete to the start of the buffer, and returns how many of its bytes are held.
+fn hold(buffer: &mut [u8], from: usize, to: usize) -> usize
+    requires { ⌜ (from ≤ to) × (to ≤ length (now buffer)) ⌝ }
+    ensures { λ r. ⌜ r ≤ length (now (buffer .exit)) ⌝ }
+{
+    let held = least(to - from, MOST_HELD);
+    let mut i: usize = 0;
+    while i < held {
+        buffer[i] = buffer[from + i];
+        i += 1;
+    }
+    held
+}
+
+// Reads once and answers the lines that are then complete; at the end of the input, the last line if it has no LF. Where reading fails, what
+// is held of a line is not answered: the rest of it is not known.
+fn turn(
+    buffer: &mut [u8],
+    held: usize,
+    replays: bool,
+    current: &mut [u32; 514],
+    stored: &mut [u32; 514],
+) -> Rest
+    requires { ⌜ held ≤ length (now buffer) ⌝ }
+    ensures { λ r. ⌜ r .held ≤ length (now (buffer .exit)) ⌝ }
+{
+    let came = read_behind(buffer, held);
+    if came.failed {
+        return Rest {
+            held: 0,
+            goes_on: false,
+        };
+    }
+    if came.count == 0 {
+        if 0 < held {
+            print_last(&buffer[..held], replays);
+        }
+        return Rest {
+            held: 0,
+            goes_on: false,
+        };
+    }
+    let end = held + came.count;
+    let done = answer_complete(&buffer[..end], replays, current, stored);
+    let goes_on = done.is_written;
+    let held = hold(buffer, done.used, end);
+    Rest { held, goes_on }
+}
+
+// Answers the lines of standard input to its end: questions, or a trace, which starts with two blank lists. A proved loop has to end, and nothing
+// says that an input does: so the turns are counted down, from a number that no run uses up.
+pub(crate) fn answer(replays: bool) {
+    let mut buffer = io::large_buffer();
+    let mut current = [0u32; 514];
+    let mut stored = [0u32; 514];
+    let mut held: usize = 0;
+    let mut turns = u64::MAX;
+    while turns > 0 {
+        let t = turn(&mut buffer, held, replays, &mut current, &mut stored);
+        if !t.goes_on {
+            return;
+        }
+        held = t.held;
+        turns -= 1;
+    }
+}

@@ -1,0 +1,11 @@
+-- The laws of replaying.
+pub mod Room
+pub mod Says
+mod Saying
+mod Arms
+pub mod Cutting
+pub mod Runs
+pub mod OneLine
+pub mod Steady
+pub mod States
+pub mod Worked

@@ -1,0 +1,5 @@
+pub mod Trace
+pub mod Replay
+pub mod Runs
+pub mod Times
+pub mod Inner
