@@ -34,7 +34,7 @@ NUMBERS = {
 }
 NOT_GIVEN = (7,)  # by the program: there is room for every answer
 # the one schedule that is not well formed and that the program can have is the blank one, at the start of a trace
-IN_HELP = NUMBERS | {11: "no list is known yet, in a trace"}
+IN_HELP = NUMBERS | {11: "no list in use, in a trace"}
 
 
 def printed(leapsec, *words, data=b""):

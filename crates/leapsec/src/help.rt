@@ -32,11 +32,12 @@ TAI     microseconds from 1972-01-01 00:00:00 TAI\n\
 \n\
 What is no question is answered by ? and what was expected. A question that is refused is\n\
 answered by ! and a number, and where a list does not read also by the place in it. Of two\n\
-lists no place is given, and compare gives the number alone, without the !. The numbers:\n\
+lists and in a trace no place is given, and compare gives the number alone, without the !.\n\
+The numbers:\n\
 1 list ends early            4 past month 2400          8 before 1972\n\
 2 byte not allowed there     5 more than 256 leaps      9 no such instant\n\
 3 gap malformed or over 999  6 something after the end  10 expired or not yet known\n\
-11 no list is known yet, in a trace\n\
+11 no list in use, in a trace\n\
 16 two lists contradict each other\n\
 20 no line of a trace\n",
     );
@@ -170,10 +171,10 @@ $ printf 'dtai current 57753\\nshow 5?\\n' | leapsec ask\n\
 fn print_replay() {
     write(
         b"leapsec replay\n\
-Replays a recorded trace from standard input, a line at a time. At the start no list is known.\n\
-L LIST        use this text list from here on; if it is refused, ! and its number, and the list in use stays\n\
+Replays a recorded trace from standard input, a line at a time. At the start no list is in use.\n\
+L LIST        use this text list, not the word current; if it is refused, ! and its number, and the list in use stays\n\
 S             store the list in use\n\
-Z             reset: use the stored list from here on\n\
+Z             reset: use the stored list\n\
 Q MJD MICROS  the smoothed time of an instant of UTC under the list in use: MJD NANOS, or ! and the number\n\
 One space stands between the fields. Any other line is answered by !20 and changes nothing, also one of more\n\
 than 4,096 bytes, a number of more than 18 digits, and a last line without a newline. L, S and Z print nothing\n\

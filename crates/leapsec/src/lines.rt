@@ -2,7 +2,6 @@
 // then complete, so one who asks and waits is answered.
 ghost use Prim.Native.Nat.{_+_, _≤_};
 ghost use lib.ListN.{length};
-ghost use Rattle.io.specs.Counts.{Counts};
 use crate::output::print_answer;
 use crate::output::within;
 use crate::output::write;

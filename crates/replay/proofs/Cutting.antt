@@ -4,11 +4,9 @@ use Prim.Native.Nat.{ℕ, _+_, _≤_, _<_}
 use mathlib.Core.Path.{_≡_, refl, sym, _∙_}
 use mathlib.Core.List.{List, [], _∷_, _++_, append-nil, append-assoc}
 use native.Mathlib.Omega.{arith}
-use native.Mathlib.Decide.{decLe}
 use lib.ListN.{length, take, drop, length-append}
 use lib.Seq.{length-take-le}
 use borrow.Author.Tests.{lt-leb}
-use Rattle.format.specs.Parts.{firstPart}
 use Rattle.refusals.specs.Refusals.{noLine}
 use Rattle.format.specs.Lines.{newline}
 use Rattle.stream.specs.Lines.{linesOf, sizeOf, rest}
@@ -45,7 +43,8 @@ module _ (s : State) (trace : List ℕ) where
   starts-long l ls left e h r =
       (rw (r, e, long-other l h) (append-assoc (shown (reply s other)) (printed replaying (next s other) ls) (unended left)), rw (e, long-other l h))
 
-  only-start : 0 < length trace → linesOf trace ≡ [] → (output s trace ≡ shown (refuse noLine)) × (stateAfter s trace ≡ s)
+  -- a trace that has no LF at all, and is not empty, is one refusal 20, and changes no state
+  pub only-start : 0 < length trace → linesOf trace ≡ [] → (output s trace ≡ shown (refuse noLine)) × (stateAfter s trace ≡ s)
   unfolding output stateAfter printed after
   only-start h e = (rw (lines.rest-all trace e, e) (some trace h), rw e)
     where
@@ -56,27 +55,24 @@ module _ (s : State) (trace : List ℕ) where
 -- of the start of a line no more than its first 4,097 bytes have to be kept: whatever follows, the output and the state are the same
 pub cut-alike : (s : State) (start b : List ℕ) (k : ℕ) → linesOf start ≡ [] → 4096 < k → k ≤ length start
     → (output s (take k start ++ b) ≡ output s (start ++ b)) × (stateAfter s (take k start ++ b) ≡ stateAfter s (start ++ b))
-cut-alike s start b k e h g =
-    let none = lines.no-mark start e in
-    let cut = take k start in
-    let none-kept = lines.none-in-start newline k start none in
-    let kept : length cut ≡ k = length-take-le k start g in
-    let n = length (firstPart newline b) in
-    elim (decLe (length b) n) [
-      | yes l ↦
-          let x = only-start s (start ++ b) (omega (arith, length-append start b))
-          (lines.no-line (start ++ b) (omega (arith, length-append start b, lines.ends-after newline start b none))) in
-          let y = only-start s (cut ++ b) (omega (arith, length-append cut b))
-          (lines.no-line (cut ++ b) (omega (arith, length-append cut b, lines.ends-after newline cut b none-kept))) in
-          (y .0 ∙ sym (x .0), y .1 ∙ sym (x .1))
-      | no l ↦
-          let i : n < length b = omega arith in
-          let more = linesOf (drop (n + 1) b) in
-          let left = rest (drop (n + 1) b) in
-          let x = starts-long s (start ++ b) (start ++ take n b) more left (lines.first-of start b none i) (omega (arith, length-append start (take n b))) (lines.rest-of start b none i) in
-          let y = starts-long s (cut ++ b) (cut ++ take n b) more left (lines.first-of cut b none-kept i) (omega (arith, length-append cut (take n b))) (lines.rest-of cut b none-kept i) in
-          (y .0 ∙ sym (x .0), y .1 ∙ sym (x .1))
-    ]
+cut-alike s start b k e h g = by-case (lines.kept-alike maxLine k start b e h g)
+  where
+    cut : List ℕ
+    cut = take k start
+
+    some : 0 < length (cut ++ b)
+    some = omega (arith, length-append cut b, length-take-le k start g)
+
+    by-case : lines.GoOnAlike maxLine (cut ++ b) (start ++ b)
+        → (output s (cut ++ b) ≡ output s (start ++ b)) × (stateAfter s (cut ++ b) ≡ stateAfter s (start ++ b))
+    by-case (lines.no-lines a c) =
+        let y = only-start s (cut ++ b) some a in
+        let x = only-start s (start ++ b) (omega (arith, length-append start b)) c in
+        (y .0 ∙ sym (x .0), y .1 ∙ sym (x .1))
+    by-case (lines.long-first l m more a c long-l long-m r) =
+        let y = starts-long s (cut ++ b) l more (rest (start ++ b)) a long-l r in
+        let x = starts-long s (start ++ b) m more (rest (start ++ b)) c long-m refl in
+        (y .0 ∙ sym (x .0), y .1 ∙ sym (x .1))
 
 -- a line of more than 4,096 bytes, whatever they are, is one refusal 20, and changes no state
 pub too-long : (s : State) (l : List ℕ) → 4096 < length l → (reply s (meaning l) ≡ refuse 20) × (next s (meaning l) ≡ s)

@@ -26,6 +26,16 @@ texts (nothing ∷ rs) = texts rs
 texts (time day u ∷ rs) = twoNumbers day u ∷ texts rs
 texts (refuse n ∷ rs) = refusal n ∷ texts rs
 
+-- ---- the bytes of an answer: `day nanoseconds`, or `!` and the number, and LF
+
+pub time-bytes : (day u : ℕ) → shown (time day u) ≡ decimal day ++ (32 ∷ (decimal u ++ (10 ∷ [])))
+unfolding shown
+time-bytes day u = append-assoc (decimal day) (32 ∷ decimal u) (10 ∷ [])
+
+pub refusal-bytes : (n : ℕ) → shown (refuse n) ≡ 33 ∷ (decimal n ++ (10 ∷ []))
+unfolding shown refusal
+refusal-bytes n = refl
+
 -- ---- a line for each answer that is not nothing
 
 in-two : (a b : ℕ) → Unbroken (twoNumbers a b)

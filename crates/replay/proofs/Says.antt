@@ -1,6 +1,6 @@
 -- What a line of a trace says, in the letters of the request: each kind of line says what it is to say, and no other line says it.
 -- Assumes nothing.
-use Prim.Native.Nat.{ℕ, _+_, _≤_}
+use Prim.Native.Nat.{ℕ, _+_, _-_, _*_, _≤_}
 use mathlib.Core.Path.{_≡_, refl, sym, ap, _∙_}
 use mathlib.Core.Bool.{true, and-eq-true-iff}
 use mathlib.Core.List.{List, [], _∷_, _++_}
@@ -18,14 +18,33 @@ use Rattle.format.specs.declared.decimal.Number.the-variants.{Given, Missing}
 use Rattle.format.proofs.Cases.{by-bool}
 use Rattle.format.proofs.Digits.{few-digits, given-digits}
 use Rattle.format.proofs.Fields.{hasNo, part-before, part-alone, two-parts}
-use Rattle.replay.specs.Trace.{Line, list, store, reset, question, other, letterL, letterS, letterZ, letterQ, maxLine, shortNumber, asks, questionOf, alone, followed, lineOf, meaning}
+use Rattle.replay.specs.Trace.{Line, list, store, reset, question, other, letterL, letterS, letterZ, letterQ, maxLine, maxDigits, shortNumber, asks, questionOf, alone, followed, lineOf, meaning}
+
+-- every byte is one of "0" to "9", which are 48 to 57
+abbrev pub AllDigits : List ℕ → Type 0
+AllDigits [] = Unit {0}
+AllDigits (b ∷ bs) = (48 ≤ b) × (b ≤ 57) × AllDigits bs
 
 -- a number of a question: 1 to 18 decimal digits, leading zeros or not, that mean n
 pub record Digits (field : List ℕ) (n : ℕ) : Type 0 where
   pub some : 1 ≤ length field
   pub few : length field ≤ 18
-  pub digits : allDigits field ≡ true
+  pub digits : AllDigits field
   pub value : valueAfter 0 field ≡ n
+
+-- what digits mean: no digits 0, and one digit more ten times as much and that digit; so a leading zero changes nothing
+pub no-digits : valueAfter 0 [] ≡ 0
+unfolding valueAfter
+no-digits = refl
+
+pub one-digit-more : (xs : List ℕ) (d n : ℕ) → valueAfter n (xs ++ (d ∷ [])) ≡ valueAfter n xs * 10 + (d - 48)
+unfolding valueAfter
+one-digit-more [] d n = refl
+one-digit-more (x ∷ xs) d n = one-digit-more xs d (n * 10 + (x - 48))
+
+pub leading-zero : (field : List ℕ) → valueAfter 0 (48 ∷ field) ≡ valueAfter 0 field
+unfolding valueAfter
+leading-zero field = refl
 
 -- the four kinds of lines, none of them of more than 4,096 bytes
 pub data Says : List ℕ → Line → Type 0 where
@@ -36,10 +55,23 @@ pub data Says : List ℕ → Line → Type 0 where
 
 -- ---- numbers
 
+are-digits : (field : List ℕ) → AllDigits field → allDigits field ≡ true
+unfolding allDigits within
+are-digits [] d = refl
+are-digits (b ∷ bs) d = simp (le-leb 48 b (d .0), le-leb b 57 (d .1), are-digits bs (d .2))
+
+digits-are : (field : List ℕ) → allDigits field ≡ true → AllDigits field
+unfolding allDigits within
+digits-are [] d = tt
+digits-are (b ∷ bs) d =
+    let e = and-eq-true-iff (isDigit b) (allDigits bs) .0 d in
+    let f = and-eq-true-iff (leb 48 b) (leb b 57) .0 (e .0) in
+    (leb-true 48 b (f .0), leb-true b 57 (f .1), digits-are bs (e .1))
+
 short-given : (field : List ℕ) (n : ℕ) → Digits field n → shortNumber field ≡ Given n
 unfolding shortNumber
 short-given field n d =
-    simp (le-leb (length field) 18 (d .few)) (few-digits field (d .some) (d .few) (d .digits) ∙ ap Given (d .value))
+    simp (le-leb (length field) maxDigits (omega (arith, d .few))) (few-digits field (d .some) (d .few) (are-digits field (d .digits)) ∙ ap Given (d .value))
 
 not-given : {A : Type 0} {n : ℕ} → Missing ≡ Given n → A
 not-given e = let z : _≡_ {A = ℕ} 0 1 = cc in absurd (omega arith)
@@ -47,17 +79,14 @@ not-given e = let z : _≡_ {A = ℕ} 0 1 = cc in absurd (omega arith)
 pub given-short : (field : List ℕ) (n : ℕ) → shortNumber field ≡ Given n → Digits field n
 unfolding shortNumber
 given-short field n =
-    by-bool (leb (length field) 18)
-    (λ b. simp b (λ e. let g = given-digits field n e in record { some = g .0; few = leb-true (length field) 18 b; digits = g .1; value = g .2 }))
+    by-bool (leb (length field) maxDigits)
+    (λ b. simp b (λ e. let g = given-digits field n e in record { some = g .0; few = leb-true (length field) maxDigits b; digits = digits-are field (g .1); value = g .2 }))
     (λ b. simp b not-given)
 
-pub no-space : (field : List ℕ) → allDigits field ≡ true → hasNo spaceByte field ≡ true
-unfolding hasNo allDigits within
+pub no-space : (field : List ℕ) → AllDigits field → hasNo spaceByte field ≡ true
+unfolding hasNo
 no-space [] d = refl
-no-space (b ∷ bs) d =
-    let e = and-eq-true-iff (isDigit b) (allDigits bs) .0 d in
-    let zero : 48 ≤ b = leb-true 48 b (and-eq-true-iff (leb 48 b) (leb b 57) .0 (e .0) .0) in
-    simp (ne-eqb b spaceByte (omega arith), no-space bs (e .1))
+no-space (b ∷ bs) d = simp (ne-eqb b spaceByte (omega (arith, d .0)), no-space bs (d .2))
 
 -- ---- what each kind of line says
 

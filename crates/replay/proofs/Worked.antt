@@ -33,6 +33,10 @@ abbrev pub table : List Row
 table =
     -- the request's own
     answers "L 6+5?\nQ 41498 86400000000\n" (nothing ∷ time 41498 86_399_001_000_000 ∷ [])
+    -- the nanoseconds are exact: a thousandth less a microsecond from 23:43:21 on
+    ∷ answers "L 6+5?\nQ 41498 85401000001\nL 6-5?\nQ 41498 85399000001\n" (nothing ∷ time 41498 85_401_000_000_999 ∷ nothing ∷ time 41498 85_399_000_001_001 ∷ [])
+    -- a reset with no list current goes back to the stored one, without a word
+    ∷ answers "Z\nS\nQ 41498 0\n" (nothing ∷ nothing ∷ refuse 11 ∷ [])
     -- a list is stored, a longer one used, and a reset goes back to the stored one
     ∷ answers "L 6+5?\nS\nL 6+6+5?\nQ 41700 0\nZ\nQ 41700 0\nQ 41498 7\n" (nothing ∷ nothing ∷ nothing ∷ time 41700 0 ∷ nothing ∷ refuse 10 ∷ time 41498 7000 ∷ [])
     -- a reset before anything is stored leaves no list, and so does a store before any list is used
@@ -62,4 +66,4 @@ table =
 -- every row of the table holds of the definitions
 pub worked : SayAll table
 unfolding repliesTo replies output printed shown linesOf sizeOf parts reply next meaning shortNumber readText readFrom numberOf allDigits within valueAfter refusal decimal digitsIn wordsOf leapWords meant standForLeaps signsFit leapsAt isLeapYear monthLengths daysInMonth monthStart gapsFit allUnused knownTo uts
-worked = (refl, (refl, (refl, (refl, (refl, (refl, (refl, (refl, (refl, (refl, (refl, (refl, (refl, (refl, (refl, (refl, tt))))))))))))))))
+worked = (refl, (refl, (refl, (refl, (refl, (refl, (refl, (refl, (refl, (refl, (refl, (refl, (refl, (refl, (refl, (refl, (refl, (refl, tt))))))))))))))))))

@@ -65,7 +65,7 @@ shown nothing = []
 shown (time day u) = twoNumbers day u ++ (newline ∷ [])
 shown (refuse n) = refusal n ++ (newline ∷ [])
 
--- no line prints more bytes than this: `114365 86399999999999` and LF have as many
+-- no line prints more bytes than this: `114364 86399999999000` and LF are as many
 abbrev pub maxPrinted : ℕ
 maxPrinted = 22
 

@@ -1,6 +1,5 @@
 // What a line of a trace says.
 ghost use mathlib.Core.Path.{_≡_};
-ghost use mathlib.Core.List.{_∷_};
 ghost use Rattle.format.specs.Parts.{parts};
 ghost use Rattle.format.specs.Lines.{spaceByte};
 ghost use Rattle.replay.specs.Trace.{shortNumber, asks, questionOf, alone, followed, lineOf, meaning};

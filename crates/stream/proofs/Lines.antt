@@ -1,6 +1,7 @@
 -- The lines of an input: where the first of them ends, and that none is lost where an input comes in one buffer after another.
 -- Assumes nothing.
 use mathlib.Core.Path.{_≡_, refl, sym, ap, _∙_}
+use mathlib.Core.Bool.{false}
 use mathlib.Core.List.{List, [], _∷_, _++_, append-nil, map}
 use Prim.Native.Nat.{ℕ, zero, suc, _+_, _-_, _≤_, _<_}
 use native.Mathlib.Omega.{arith}
@@ -237,23 +238,54 @@ rest-all input e = rw e
 
 -- ---- a line that is too long
 
+-- two inputs that go on alike behind starts without LF of more bytes than a number: neither has a line, or each has a first line of more bytes than
+-- it, and then both have the same lines and the same rest
+pub data GoOnAlike (most : ℕ) (a c : List ℕ) : Type 0 where
+  no-lines : linesOf a ≡ [] → linesOf c ≡ [] → GoOnAlike most a c
+  long-first : (x y : List ℕ) (more : List (List ℕ)) → linesOf a ≡ x ∷ more → linesOf c ≡ y ∷ more → most < length x → most < length y → rest a ≡ rest c
+      → GoOnAlike most a c
+
+-- so does what is kept of a start, if that is more
+pub kept-alike : (most k : ℕ) (start b : List ℕ) → linesOf start ≡ [] → most < k → k ≤ length start → GoOnAlike most (take k start ++ b) (start ++ b)
+kept-alike most k start b e h g =
+    let none = no-mark start e in
+    let cut = take k start in
+    let none-kept = none-in-start newline k start none in
+    let kept : length cut ≡ k = length-take-le k start g in
+    let n = length (firstPart newline b) in
+    elim (decLe (length b) n) [
+      | yes l ↦
+          no-lines (no-line (cut ++ b) (omega (arith, length-append cut b, ends-after newline cut b none-kept)))
+          (no-line (start ++ b) (omega (arith, length-append start b, ends-after newline start b none)))
+      | no l ↦
+          let inside : n < length b = omega arith in
+          long-first (cut ++ take n b) (start ++ take n b) (linesOf (drop (n + 1) b)) (first-of cut b none-kept inside) (first-of start b none inside)
+          (omega (arith, length-append cut (take n b))) (omega (arith, length-append start (take n b)))
+          (rest-of cut b none-kept inside ∙ sym (rest-of start b none inside))
+    ]
+
 -- where lines of more bytes than a number all mean the same, no more than one byte above it has to be kept of the start of a line: whatever
 -- follows, the lines mean the same
 pub cut-alike : {A : Type 0} (f : List ℕ → A) (most : ℕ) → ((a b : List ℕ) → most < length a → most < length b → f a ≡ f b)
     → (start b : List ℕ) (k : ℕ) → linesOf start ≡ [] → most < k → k ≤ length start → map f (linesOf (take k start ++ b)) ≡ map f (linesOf (start ++ b))
-cut-alike {A} f most alike start b k e h g =
-    let none = no-mark start e in
-    let none-kept = none-in-start newline k start none in
-    let kept : length (take k start) ≡ k = length-take-le k start g in
-    let n = length (firstPart newline b) in
-    elim (decLe (length b) n) [
-      | yes l ↦
-          let a = no-line (start ++ b) (omega (arith, length-append start b, ends-after newline start b none)) in
-          let c = no-line (take k start ++ b) (omega (arith, length-append (take k start) b, ends-after newline (take k start) b none-kept)) in
-          rw (a, c)
-      | no l ↦
-          let long : most < length (start ++ take n b) = omega (arith, length-append start (take n b)) in
-          let long-kept : most < length (take k start ++ take n b) = omega (arith, length-append (take k start) (take n b)) in
-          rw (first-of start b none (omega arith), first-of (take k start) b none-kept (omega arith))
-          (ap (λ (x : A). x ∷ map f (linesOf (drop (n + 1) b))) (alike (take k start ++ take n b) (start ++ take n b) long-kept long))
-    ]
+cut-alike {A} f most alike start b k e h g = by-case (kept-alike most k start b e h g)
+  where
+    by-case : GoOnAlike most (take k start ++ b) (start ++ b) → map f (linesOf (take k start ++ b)) ≡ map f (linesOf (start ++ b))
+    by-case (no-lines a c) = rw (a, c)
+    by-case (long-first x y more a c l m r) = rw (a, c) (ap (λ (z : A). z ∷ map f more) (alike x y l m))
+
+-- ---- a byte more
+
+-- an LF ends the line that a start without LF is
+pub one-line : (start : List ℕ) → linesOf start ≡ [] → linesOf (start ++ (newline ∷ [])) ≡ start ∷ []
+unfolding firstPart
+one-line start e =
+    let first = first-of start (newline ∷ []) (no-mark start e) (omega arith) in
+    first ∙ rw (append-nil start, nothing)
+
+-- and another byte does not
+pub no-line-yet : (start : List ℕ) (b : ℕ) → linesOf start ≡ [] → eqb b newline ≡ false → linesOf (start ++ (b ∷ [])) ≡ []
+unfolding firstPart
+no-line-yet start b e h =
+    let one : length (firstPart newline (b ∷ [])) ≡ 1 = simp h in
+    no-line (start ++ (b ∷ [])) (omega (arith, length-append start (b ∷ []), ends-after newline start (b ∷ []) (no-mark start e)))

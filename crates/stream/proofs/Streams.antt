@@ -2,12 +2,13 @@
 -- Assumes nothing.
 use mathlib.Core.Path.{_≡_, refl, sym, ap, _∙_}
 use mathlib.Core.List.{List, [], _∷_, _++_, append-nil, append-assoc}
+use mathlib.Core.Logic.{_⊎_, inl, inr}
 use Prim.Native.Nat.{ℕ, _+_, _-_, _≤_, _<_}
 use native.Mathlib.Omega.{arith}
 use lib.Dec.{leb}
 use lib.ListN.{length, take, drop, length-append, length-drop}
 use lib.Seq.{length-take-le, drop-drop}
-use borrow.Author.Tests.{le-leb, lt-leb}
+use borrow.Author.Tests.{le-leb, lt-leb, leb-false}
 use Rattle.format.specs.Output.{Puts, PutsUpTo}
 use Rattle.format.specs.Parts.{firstPart}
 use Rattle.format.proofs.Cases.{by-bool}
@@ -55,6 +56,23 @@ module _ {S : Type 0} (w : Answering S) where
       → answered w room s (l ∷ ls) ≡ l ∷ answered w (room - length (w .prints s l)) (w .next s l) ls
   unfolding answered
   one-more room s l ls h = simp (le-leb (w .most) room h)
+
+  -- all lines are answered, or the room that is left is too little for the longest answer
+  pub all-or-full : (room : ℕ) (s : S) (ls : List (List ℕ))
+      → (answered w room s ls ≡ ls) ⊎ (room - length (printed w s (answered w room s ls)) < w .most)
+  unfolding answered printed
+  all-or-full room s [] = inl refl
+  all-or-full room s (l ∷ ls) =
+      by-bool (leb (w .most) room) (λ b. simp b (onward (all-or-full (room - length (w .prints s l)) (w .next s l) ls)))
+      (λ b. simp b (inr (omega (arith, leb-false (w .most) room b))))
+    where
+      left : List (List ℕ)
+      left = answered w (room - length (w .prints s l)) (w .next s l) ls
+
+      onward : (left ≡ ls) ⊎ (room - length (w .prints s l) - length (printed w (w .next s l) left) < w .most)
+          → (l ∷ left ≡ l ∷ ls) ⊎ (room - length (w .prints s l ++ printed w (w .next s l) left) < w .most)
+      onward (inl e) = inl (ap (λ (xs : List (List ℕ)). l ∷ xs) e)
+      onward (inr h) = inr (omega (arith, h, length-append (w .prints s l) (printed w (w .next s l) left)))
 
   -- the lines that are answered are the first ones
   pub record Begins (first all : List (List ℕ)) : Type 0 where

@@ -184,7 +184,7 @@ fn is_smoothed(line: &[u8], printed: &[u8]) -> bool {
 
 /// The kinds of lines that must be met, each by its name.
 #[rustfmt::skip]
-pub const KINDS: [(&str, Is); 36] = [
+pub const KINDS: [(&str, Is); 37] = [
     ("a line L whose list is used", |line, printed| uses(line) && printed.is_empty()),
     ("a line L that printed !1", |line, printed| uses(line) && printed == b"!1\n"),
     ("a line L that printed !2", |line, printed| uses(line) && printed == b"!2\n"),
@@ -213,6 +213,7 @@ pub const KINDS: [(&str, Is); 36] = [
     ("a line that ends with CR", |line, _| line.ends_with(b"\r")),
     ("a line with a byte of 0", |line, _| line.contains(&0)),
     ("a line with a byte of 255", |line, _| line.contains(&255)),
+    ("a line of 4095 bytes", |line, _| line.len() == 4_095),
     ("a line L of 4096 bytes that printed its list's number", |line, printed| uses(line) && line.len() == 4_096 && printed != b"!20\n"),
     ("a line of 4097 bytes", |line, _| line.len() == 4_097),
     ("a line of over 4098 bytes", |line, _| line.len() > 4_098),
