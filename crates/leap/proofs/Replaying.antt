@@ -22,7 +22,7 @@ module _ {s s′ : State} {trace before after′ : List ℕ} {n used written : �
       let l = rw none at (h .its-lines) in
       (h .its-number ∙ rw (lt-ltb (length before) 22 g), l .used, l .written, l .holds ∙ sym (from-start (nothing before 0) .1), l .state)
 
-  -- with more it returns 0
+  -- with 22 bytes or more it returns 0
   pub enough-room : 22 ≤ length before → n ≡ 0
   enough-room g = h .its-number ∙ rw (le-ltb (length before) 22 g)
 

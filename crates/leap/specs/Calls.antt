@@ -28,8 +28,8 @@ pub record HandsBytes (w : Writing) (bytes : List ℕ) (number count : ℕ) (aft
 abbrev pub HandsWriting : Schedule → List ℕ → List ℕ → ℕ → ℕ → List ℕ → Type 0
 HandsWriting s list before number count after = HandsBytes (writing s list (length before)) (written s list before) number count after
 
--- what replaying a piece of a trace hands over, from a state and with an output that held `before`: number 7 where the output has no room for what
--- any line prints, else 0; and what the lines leave that are replayed: the first ones, as long as there is that room, and so none where there is not
+-- what replaying a piece of a trace hands over, from a state and with an output that held `before`: number 7 where the output has no room for the
+-- most that a line prints, else 0; and what the lines leave that are replayed: the first ones, as long as there is that room, and so none where there is not
 pub record HandsReplay (s : State) (trace before : List ℕ) (number : ℕ) (s′ : State) (after : List ℕ) (used written : ℕ) : Type 0 where
   pub its-number : number ≡ cond (ltb (length before) maxPrinted) outputShort 0
   pub its-lines : LinesAnswered replaying s (answered replaying (length before) s (linesOf trace)) before after s′ (record { used = used; written = written })

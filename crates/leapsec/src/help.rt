@@ -171,14 +171,14 @@ $ printf 'dtai current 57753\\nshow 5?\\n' | leapsec ask\n\
 fn print_replay() {
     write(
         b"leapsec replay\n\
-Replays a recorded trace from standard input, a line at a time. At the start no list is in use.\n\
-L LIST        use this text list, not the word current; if it is refused, ! and its number, and the list in use stays\n\
+Replays a recorded trace from standard input, a line at a time. At the start no list is in use, and none is stored.\n\
+L LIST        use this text list (not the word current); if it is refused, ! and its number, and the list in use stays\n\
 S             store the list in use\n\
 Z             reset: use the stored list\n\
 Q MJD MICROS  the smoothed time of an instant of UTC under the list in use: MJD NANOS, or ! and the number\n\
 One space stands between the fields. Any other line is answered by !20 and changes nothing, also one of more\n\
-than 4,096 bytes, a number of more than 18 digits, and a last line without a newline. L, S and Z print nothing\n\
-else.\n\
+than 4,096 bytes or with a number of more than 18 digits, and a last line without a newline. L, S and Z print\n\
+nothing else.\n\
 \n\
 $ printf 'L 6+5?\\nQ 41498 86400000000\\n' | leapsec replay\n\
 41498 86399001000000\n",

@@ -9,7 +9,7 @@ use libc::STDIN_FILENO;
 use stream::Step;
 
 // A line that is longer than 8,192 bytes is no question, whatever it has behind them, and one that is longer than 4,096 is no line of a trace. So
-// no more is held of a line that is not complete.
+// of a line that is not complete no more than 8,193 bytes are held; for a trace 4,097 would do.
 const MOST_HELD: usize = command::MAX_LINE + 1;
 
 // What a read brought: how many bytes, 0 at the end of the input; or that it failed.
@@ -64,7 +64,7 @@ fn answer_lines(
     command::answer_lines(input, out)
 }
 
-// Writes the answer to a last line that has no LF: a question, or no line of a trace.
+// Writes the answer to a last line that has no LF: a question, or in a trace refusal 20.
 fn print_last(line: &[u8], replays: bool) {
     if replays {
         let mut out = [0u8; replay::MAX_PRINTED];
@@ -76,7 +76,7 @@ fn print_last(line: &[u8], replays: bool) {
     print_answer(line, false);
 }
 
-// Writes the answers to complete lines at the start of an input, as many as a buffer has room for. None are used where no line is complete.
+// Writes the answers to complete lines at the start of an input, as many as a buffer has room for. No bytes are used where no line is complete.
 fn answer_some(
     input: &[u8],
     replays: bool,

@@ -63,8 +63,8 @@ ended s held e = record { prints = rw (append-nil held, lines.rest-all held e, e
 
 -- however a trace arrives, whole or in pieces of any lengths, with whatever rooms it is replayed, and whatever is kept of a long line beyond its
 -- first 4,096 bytes: it prints the same, and ends in the same state
-pub any-run : {size : ℕ} {s s′ : State} {held coming out : List ℕ} → Run size s held coming out s′ → Same s (held ++ coming) out s′
-any-run {s} {held = held} {coming = coming} (call room done e r) =
+pub any-run : {size most : ℕ} {s s′ : State} {held coming out : List ℕ} → Run size most s held coming out s′ → Same s (held ++ coming) out s′
+any-run {s} {held = held} {coming = coming} (call room _ done e r) =
     called s held coming done (sym (rw (← e) at (none-lost replaying room s held))) (any-run r)
 any-run {s} {held = held} (arrive {coming = coming} piece h r) = rw (append-assoc held piece coming) at (any-run r)
 any-run {s} {held = held} {coming = coming} (keep most h e r) = kept s held coming most h e (any-run r)
@@ -72,15 +72,15 @@ any-run {s} {held = held} (end e) = ended s held e
 
 -- ---- every trace has such a run
 
-pub record Through (size : ℕ) (s : State) (held coming : List ℕ) : Type 0 where
+pub record Through (size most : ℕ) (s : State) (held coming : List ℕ) : Type 0 where
   pub out : List ℕ
   pub last : State
-  pub run : Run size s held coming out last
+  pub run : Run size most s held coming out last
 
-module _ (size room : ℕ) (large : 4098 ≤ size) (enough : 22 ≤ room) where
-  one-call : (s : State) (held : List ℕ) → linesOf held ≡ [] → held ∷ [] ≡ answered replaying room s (linesOf (held ++ (newline ∷ [])))
+module _ (size most : ℕ) (large : 4098 ≤ size) (enough : 22 ≤ most) where
+  one-call : (s : State) (held : List ℕ) → linesOf held ≡ [] → held ∷ [] ≡ answered replaying most s (linesOf (held ++ (newline ∷ [])))
   unfolding answered
-  one-call s held e = rw (lines.one-line held e) (simp (le-leb 22 room enough))
+  one-call s held e = rw (lines.one-line held e) (simp (le-leb 22 most enough))
 
   used-up : (held : List ℕ) → drop (sizeOf (held ∷ [])) (held ++ (newline ∷ [])) ≡ []
   unfolding sizeOf
@@ -91,17 +91,17 @@ module _ (size room : ℕ) (large : 4098 ≤ size) (enough : 22 ≤ room) where
   fits : (held : List ℕ) (b : ℕ) → length held ≤ 4097 → length (held ++ (b ∷ [])) ≤ size
   fits held b h = omega (arith, length-append held (b ∷ []))
 
-  line-end : (bs : List ℕ) (s : State) (held : List ℕ) → linesOf held ≡ [] → length held ≤ 4097 → Through size (after replaying s (held ∷ [])) [] bs
-      → Through size s held (newline ∷ bs)
+  line-end : (bs : List ℕ) (s : State) (held : List ℕ) → linesOf held ≡ [] → length held ≤ 4097 → Through size most (after replaying s (held ∷ [])) [] bs
+      → Through size most s held (newline ∷ bs)
   line-end bs s held e h i =
-      let others : Run size (after replaying s (held ∷ [])) (drop (sizeOf (held ∷ [])) (held ++ (newline ∷ []))) bs (i .out) (i .last) = rw (used-up held) (i .run) in
+      let others : Run size most (after replaying s (held ∷ [])) (drop (sizeOf (held ∷ [])) (held ++ (newline ∷ []))) bs (i .out) (i .last) = rw (used-up held) (i .run) in
       record {
         out = printed replaying s (held ∷ []) ++ i .out;
         last = i .last;
-        run = arrive (newline ∷ []) (fits held newline h) (call room (held ∷ []) (one-call s held e) others);
+        run = arrive (newline ∷ []) (fits held newline h) (call most (omega arith) (held ∷ []) (one-call s held e) others);
       }
 
-  through : (coming : List ℕ) (s : State) (held : List ℕ) → linesOf held ≡ [] → length held ≤ 4097 → Through size s held coming
+  through : (coming : List ℕ) (s : State) (held : List ℕ) → linesOf held ≡ [] → length held ≤ 4097 → Through size most s held coming
   through [] s held e h = record { out = unended held; last = s; run = end e }
   through (b ∷ bs) s held e h =
       let after-line = through bs (after replaying s (held ∷ [])) [] lines.nothing (omega arith) in
@@ -118,9 +118,9 @@ module _ (size room : ℕ) (large : 4098 ≤ size) (enough : 22 ≤ room) where
       })
 
 -- every trace has a run with a buffer of fixed size, 4,098 bytes or more, and an output of fixed room, 22 bytes or more: what is held never
--- outgrows the buffer
-pub fixed-buffers : (size room : ℕ) → 4098 ≤ size → 22 ≤ room → (s : State) (trace : List ℕ) → Through size s [] trace
-fixed-buffers size room large enough s trace = through size room large enough trace s [] lines.nothing (omega arith)
+-- outgrows the one, nor a call the other
+pub fixed-buffers : (size most : ℕ) → 4098 ≤ size → 22 ≤ most → (s : State) (trace : List ℕ) → Through size most s [] trace
+fixed-buffers size most large enough s trace = through size most large enough trace s [] lines.nothing (omega arith)
 
 -- ---- a call
 

@@ -170,7 +170,7 @@ says l m not-other = (to, says-is)
     to : meaning l ≡ m → Says l m
     to e = from-kind (kind l) e
 
--- a line is none of a trace, and gets refusal 20, exactly when it is of no kind
+-- a line says nothing that a line of a trace can say exactly when it is of no kind
 pub no-line : (l : List ℕ) → (meaning l ≡ other) ↔ ((m : Line) → Says l m → ⊥)
 no-line l = (to, from)
   where

@@ -33,9 +33,10 @@ abbrev pub table : List Row
 table =
     -- the request's own
     answers "L 6+5?\nQ 41498 86400000000\n" (nothing ∷ time 41498 86_399_001_000_000 ∷ [])
-    -- the nanoseconds are exact: a thousandth less a microsecond from 23:43:21 on
+    -- the nanoseconds are exact: a microsecond is a thousandth shorter from 23:43:21 on before an inserted second, and a thousandth longer from
+    -- 23:43:19 on before a deleted one
     ∷ answers "L 6+5?\nQ 41498 85401000001\nL 6-5?\nQ 41498 85399000001\n" (nothing ∷ time 41498 85_401_000_000_999 ∷ nothing ∷ time 41498 85_399_000_001_001 ∷ [])
-    -- a reset with no list current goes back to the stored one, without a word
+    -- a reset with no list current goes back to the stored one, and prints nothing
     ∷ answers "Z\nS\nQ 41498 0\n" (nothing ∷ nothing ∷ refuse 11 ∷ [])
     -- a list is stored, a longer one used, and a reset goes back to the stored one
     ∷ answers "L 6+5?\nS\nL 6+6+5?\nQ 41700 0\nZ\nQ 41700 0\nQ 41498 7\n" (nothing ∷ nothing ∷ nothing ∷ time 41700 0 ∷ nothing ∷ refuse 10 ∷ time 41498 7000 ∷ [])

@@ -30,12 +30,12 @@ pub data Reply : Type 0 where
   time : ℕ → ℕ → Reply
   refuse : ℕ → Reply
 
--- the smoothed time of an instant on a day
+-- the answer to a question: the smoothed time, on the day asked for, or the number
 abbrev pub onDay : ℕ → Answer ℕ → Reply
 onDay day (given u) = time day u
 onDay day (refused n) = refuse n
 
--- the number of a list that is refused
+-- what a list is answered, by its number: nothing where that is 0
 abbrev pub numbered : ℕ → Reply
 numbered n = cond (eqb n 0) nothing (refuse n)
 
@@ -73,7 +73,7 @@ maxPrinted = 22
 abbrev pub replaying : Answering State
 replaying = record { prints = λ s line. shown (reply s (meaning line)); next = λ s line. next s (meaning line); most = maxPrinted }
 
--- what stands after the last LF of a trace is no line: nothing where it is nothing, else refusal 20
+-- what stands after the last LF of a trace is no line: it prints nothing where it is empty, else refusal 20
 abbrev pub unended : List ℕ → List ℕ
 unended [] = []
 unended (b ∷ bs) = shown (refuse noLine)

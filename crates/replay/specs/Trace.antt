@@ -44,7 +44,7 @@ maxDigits = 18
 unfoldable pub shortNumber : List ℕ → Number
 shortNumber field = cond (leb (length field) maxDigits) (numberOf field) Missing
 
--- a question about two numbers, where both are given
+-- a question with two numbers, where both are given
 abbrev pub asks : Number → Number → Line
 asks (Given day) (Given t) = question day t
 asks (Given day) Missing = other

@@ -25,7 +25,7 @@ use stream::Step;
 // No line prints more bytes than this.
 pub const MAX_PRINTED: usize = 22;
 
-// The bytes of refusal 20 as it is printed.
+// How many bytes refusal 20 is as it is printed, with its LF.
 const NO_LINE_BYTES: usize = 4;
 
 // Puts a refusal and an LF.
@@ -94,7 +94,7 @@ fn replay_line(
     }
 }
 
-// Replays the complete lines of a trace from a current and a stored list, as long as the output has room for what any line prints. A caller goes
+// Replays the complete lines of a trace from a current and a stored list, as long as the output has room for the most that a line prints. A caller goes
 // on with what is left of the trace.
 pub fn replay(
     current: &mut [u32; 514],

@@ -15,7 +15,7 @@ const MAX_LINE: usize = 4096;
 // The most digits of a number.
 const MAX_DIGITS: usize = 18;
 
-// What a line says: use the list that follows the first two bytes, store, reset, a question about an instant, or nothing of these.
+// What a line says: use the list that follows the first two bytes, store, reset, a question about an instant, or none of these.
 pub(crate) enum Said {
     Use,
     Store,

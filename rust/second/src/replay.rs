@@ -1,5 +1,4 @@
-//! A branch's day replayed from its trace (request 12/14 of
-//! `02-change-requests.md`).
+//! A branch's day replayed from its trace (request 12/14 of 02).
 //!
 //! ```text
 //! L LIST         use the text list, all that follows the space
