@@ -35,6 +35,14 @@
 extern "C" {
 #endif
 
+/* The version of this interface. In version 1, which had no such name, the last
+ * word of a leap_schedule was `expiry`, a month number; now it is `expiry_mjd`, a
+ * day. Every month number is a day before 1972, so a stored binary leap_schedule
+ * of version 1 is refused with 11 by every call that looks at it (in a replay a Q
+ * prints "!11"), and never misread. Store the text list instead, or read the list
+ * again. */
+#define LEAP_API_VERSION 2
+
 /* What a call returns, or puts into `numbers`. */
 enum {
     LEAP_OK = 0,               /* an answer */
@@ -51,6 +59,7 @@ enum {
     LEAP_NOT_KNOWN = 10,       /* expired or not yet known */
     LEAP_NOT_WELL_FORMED = 11, /* the schedule is not well formed */
     LEAP_CONTRADICTION = 16,   /* two lists contradict each other */
+    LEAP_NO_GAP = 17,          /* rounding the expiry down to its month leaves a gap of 0 */
     LEAP_NO_LINE = 20          /* no line of a trace (printed, returned by no call) */
 };
 
@@ -58,7 +67,7 @@ enum {
     LEAP_MAX_LEAPS = 256,
     LEAP_TEXT_ROOM = 752,        /* bytes that hold any list as text */
     LEAP_NYBBLES_ROOM = 390,     /* bytes that hold any list as nybbles */
-    LEAP_COMPARISON_ROOM = 4629, /* bytes that hold any comparison */
+    LEAP_COMPARISON_ROOM = 4633, /* bytes that hold any comparison */
     LEAP_REPLAY_ROOM = 22,       /* bytes that hold what any line of a trace prints */
     LEAP_REPLAY_HELD = 4097      /* bytes to keep, at most, of a line that is not complete */
 };
@@ -70,20 +79,22 @@ typedef struct {
     uint32_t month, negative;
 } leap_second;
 
-/* A list of `count` leap seconds. From month `expiry` on nothing is known. It
- * is well formed if the count is at most 256, the months strictly rise, each
- * gap (from month 0 to the first leap, from leap to leap, from the last leap to
- * the expiry) is 1 to 999, the expiry is at most 2400, and unused places hold
- * zeros. Words of any value may be given: none is cut to fewer bits. */
+/* A list of `count` leap seconds. From the day `expiry_mjd` on nothing is known. It
+ * is well formed if the count is at most 256, the months strictly rise, each gap
+ * (from month 0 to the first leap, from leap to leap) is 1 to 999, the expiry is
+ * later than the first day of the last leap's month (of month 0 if there is none)
+ * and in a month at most 999 after that one, the expiry is at most 114366 (the
+ * first day of month 2400), and unused places hold zeros. Words of any value may be
+ * given: none is cut to fewer bits. */
 typedef struct {
     leap_second leap[256];
-    uint32_t count, expiry;
+    uint32_t count, expiry_mjd;
 } leap_schedule;
 
 /* The layout: 514 words of 32 bits, with no padding. */
 typedef char leap_schedule_is_514_words[sizeof(leap_schedule) == 514 * 4 ? 1 : -1];
 typedef char leap_count_is_word_512[offsetof(leap_schedule, count) == 512 * 4 ? 1 : -1];
-typedef char leap_expiry_is_word_513[offsetof(leap_schedule, expiry) == 513 * 4 ? 1 : -1];
+typedef char leap_expiry_is_word_513[offsetof(leap_schedule, expiry_mjd) == 513 * 4 ? 1 : -1];
 typedef char leap_second_is_2_words[sizeof(leap_second) == 2 * 4 ? 1 : -1];
 typedef char leap_sign_is_word_1[offsetof(leap_second, negative) == 4 ? 1 : -1];
 
@@ -97,20 +108,24 @@ typedef struct {
 typedef char leap_part_is_2_values[sizeof(leap_part) == sizeof(void *) + sizeof(size_t) ? 1 : -1];
 typedef char leap_length_is_value_1[offsetof(leap_part, length) == sizeof(void *) ? 1 : -1];
 
-/* Reads a text list, such as "6+12-5?", into *out. Refuses with 1, 2, 3, 4, 5
- * or 6, and *place is then the byte it stopped at (the length, for 1). */
+/* Reads a text list, such as "6+12-5?", into *out. It expires on the first day of
+ * a month. Refuses with 1, 2, 3, 4, 5 or 6, and *place is then the byte it stopped
+ * at (the length, for 1). */
 uint8_t leap_read_text(const uint8_t *bytes, size_t length,
                        leap_schedule *out, uint64_t *place);
 
-/* Reads a nybble list, upper half of each byte first, into *out. Refuses with
- * 1, 3, 4, 5 or 6, and *place is then the nybble it stopped at (the first of
- * the refused code; the nybble count, for 1). */
+/* Reads a nybble list, upper half of each byte first, into *out. It expires on the
+ * first day of a month. Refuses with 1, 3, 4, 5 or 6, and *place is then the nybble
+ * it stopped at (the first of the refused code; the nybble count, for 1). */
 uint8_t leap_read_nybbles(const uint8_t *bytes, size_t length,
                           leap_schedule *out, uint64_t *place);
 
 /* Writes the schedule's text list, with no 0 at its end, to the start of the
- * `room` bytes at out, and its length to *written; bytes beyond that stay.
- * Refuses, in this order, with 11 (not well formed) or 7 (room too small). */
+ * `room` bytes at out, and its length to *written; bytes beyond that stay. The
+ * expiry is rounded down to its month: a schedule that expires on the first of a
+ * month reads back as itself, and any other as one that it extends. Refuses, in
+ * this order, with 11 (not well formed), 17 (rounding down leaves a gap of 0: the
+ * expiry is in the last leap's month, or in month 0) or 7 (room too small). */
 uint8_t leap_write_text(const leap_schedule *s,
                         uint8_t *out, size_t room, uint64_t *written);
 
@@ -119,22 +134,22 @@ uint8_t leap_write_text(const leap_schedule *s,
 uint8_t leap_write_nybbles(const leap_schedule *s,
                            uint8_t *out, size_t room, uint64_t *written);
 
-/* Two lists. The longer one extends the shorter if its leaps below the shorter
- * one's expiry month are all of the shorter one's leaps, equal in month and sign,
- * and it expires no earlier. It then gives every answer that the shorter gives,
- * and equal lists extend each other. Where neither extends the other they
- * contradict: some date has a DTAI under both, and the two differ. */
+/* Two lists. The longer one extends the shorter if its leaps in months that start
+ * before the shorter one's expiry day are all of the shorter one's leaps, equal in
+ * month and sign, and it expires on no earlier day. It then gives every answer that
+ * the shorter gives, and equal lists extend each other. Where neither extends the
+ * other they contradict: some date has a DTAI under both, and the two differ. */
 
 /* Compares two text lists. For each month, rising, at which either has a leap
  * and their marks differ, it writes a line: the month, the first list's mark and
- * the second's. A mark is +, - or 0 (no leap), or ? at and after that list's
- * expiry month. Then, if the expiry months differ, a line of = and both. The last
- * line is "same", "extends 1" (the first extends the second), "extends 2" or
- * "contradict". For "6+6+5?" and "6+12+5?" the lines are
+ * the second's. A mark is +, - or 0 (no leap), or ? in a month that starts on or
+ * after that list's expiry day. Then, if the expiries differ, a line of = and both,
+ * as MJDs. The last line is "same", "extends 1" (the first extends the second),
+ * "extends 2" or "contradict". For "6+6+5?" and "6+12+5?" the lines are
  *
  *     12 + 0
  *     18 ? +
- *     = 17 23
+ *     = 41834 42017
  *     contradict
  *
  * Each is ended by a newline, and no 0 follows. They are written to the start of
@@ -172,36 +187,38 @@ uint8_t leap_extends(const leap_schedule *longer, const leap_schedule *shorter,
 /* The times. A day is a Modified Julian Day (MJD 41317 is 1 January 1972).
  * UTC counts microseconds of a day of 86,399, 86,400 or 86,401 seconds; UTS
  * counts nanoseconds of a day of always 86,400 seconds; TAI counts microseconds
- * from 1972-01-01 00:00:00 TAI. Let Z be the last day before the expiry month:
- * its DTAI is known, but not its length. */
+ * from 1972-01-01 00:00:00 TAI. Let Z be the last day before the expiry: its DTAI
+ * is known. If the expiry is the first of a month, Z may end with a leap, so its
+ * length is not known, and questions about instants have a cut-off on Z. If not, Z
+ * is a day of 86,400 seconds, known whole, and has no cut-off. */
 
 /* TAI minus UTC on a day, in seconds; it may be below zero. Refuses, in this
  * order, with 11 (not well formed), 8 (before 1972) or 10 (after Z). */
 uint8_t leap_dtai(const leap_schedule *s, uint64_t mjd, int32_t *dtai);
 
 /* The TAI of a UTC instant. Refuses, in this order, with 11 (not well formed),
- * 8 (before 1972), 9 (micros is 86,401,000,000 or more), 10 (after Z, or on Z
- * from 86,399,000,000 on) or 9 (micros is the day's length or more). */
+ * 8 (before 1972), 9 (micros is 86,401,000,000 or more), 10 (after Z, or on Z from
+ * its cut-off, 86,399,000,000, on) or 9 (micros is the day's length or more). */
 uint8_t leap_utc_to_tai(const leap_schedule *s, uint64_t mjd, uint64_t micros,
                         uint64_t *tai);
 
 /* The UTC instant with this TAI. Refuses, in this order, with 11 (not well
- * formed), 8 (TAI under 10,000,000) or 10 (not below the TAI of Z at
- * 86,399,000,000). */
+ * formed), 8 (TAI under 10,000,000) or 10 (not below the TAI of Z at its cut-off,
+ * 86,399,000,000, or at its end if it has none). */
 uint8_t leap_tai_to_utc(const leap_schedule *s, uint64_t tai,
                         uint64_t *mjd, uint64_t *micros);
 
 /* The UTS of a UTC instant, on the same day. Refuses, in this order, with 11
  * (not well formed), 8 (before 1972), 9 (micros is 86,401,000,000 or more), 10
- * (after Z, or on Z from 85,399,000,000 on) or 9 (micros is the day's length or
- * more). */
+ * (after Z, or on Z from its cut-off, 85,399,000,000, on) or 9 (micros is the day's
+ * length or more). */
 uint8_t leap_utc_to_uts(const leap_schedule *s, uint64_t mjd, uint64_t micros,
                         uint64_t *nanos);
 
 /* The greatest UTC microseconds of the day whose UTS is not above nanos.
  * Refuses, in this order, with 11 (not well formed), 8 (before 1972), 9 (nanos
- * is 86,400,000,000,000 or more) or 10 (after Z, or on Z from
- * 85,399,000,000,000 on). */
+ * is 86,400,000,000,000 or more) or 10 (after Z, or on Z from its cut-off,
+ * 85,399,000,000,000, on). */
 uint8_t leap_uts_to_utc(const leap_schedule *s, uint64_t mjd, uint64_t nanos,
                         uint64_t *micros);
 

@@ -30,9 +30,10 @@ NUMBERS = {
     10: "expired or not yet known",
     11: "schedule not well formed",
     16: "two lists contradict each other",
+    17: "rounding the expiry down to its month leaves a gap of 0",
     20: "no line of a trace",
 }
-NOT_GIVEN = (7,)  # by the program: there is room for every answer
+NOT_GIVEN = (7, 17)  # by the program: there is room for every answer, and every list that is read can be written
 # the one schedule that is not well formed and that the program can have is the blank one, at the start of a trace
 IN_HELP = NUMBERS | {11: "no list in use, in a trace"}
 
@@ -73,8 +74,8 @@ def single(leapsec):
         (["show 5?"], b"1972-01-01 1972-05-31 +10\n1972-06-01 unknown\n"),
         (["show", "5?\n"], b"!6 2\n"),
         (["show", ""], b"!1 0\n"),
-        (["compare", "6+6+5?", "6+12+5?"], b"12 + 0\n18 ? +\n= 17 23\ncontradict\n"),
-        (["compare", "6? 6+5?"], b"6 ? +\n= 6 11\nextends 2\n"),
+        (["compare", "6+6+5?", "6+12+5?"], b"12 + 0\n18 ? +\n= 41834 42017\ncontradict\n"),
+        (["compare", "6? 6+5?"], b"6 ? +\n= 41499 41652\nextends 2\n"),
         (["compare", "06+5?", "5?"], b"3\n"),
         (["compare", "5?", ""], b"1\n"),
         (["compare", "5?", "5?\n"], b"6\n"),

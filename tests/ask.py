@@ -127,11 +127,15 @@ def ends(leapsec):
 
 
 def two_lists(leapsec):
-    """The answers about two lists, as request 7/14 gives them and as they are worked by hand from it."""
+    """The answers about two lists, as requests 7/14 and 10/14 give them and as they are worked by hand from these.
+
+    Months 6, 11, 17 and 23 start on MJD 41499, 41652, 41834 and 42017: 182, 366 - 31, 366 + 151 and 366 + 334 days from MJD 41317 on.
+    """
     questions = {
-        b"compare 6+6+5? 6+12+5?": b"12 + 0; 18 ? +; = 17 23; contradict",
-        b"compare 6? 6+5?": b"6 ? +; = 6 11; extends 2",
-        b"compare 6+5? 6?": b"6 + ?; = 11 6; extends 1",
+        b"compare 6+6+5? 6+12+5?": b"12 + 0; 18 ? +; = 41834 42017; contradict",
+        b"compare 6? 6+5?": b"6 ? +; = 41499 41652; extends 2",
+        b"compare 6+5? 6?": b"6 + ?; = 41652 41499; extends 1",
+        b"compare 999+999+401? 999+999+402?": b"= 114335 114366; extends 2",
         b"compare 11? 6+5?": b"6 0 +; contradict",
         b"compare 6+5? 6-5?": b"6 + -; contradict",
         b"compare 6+5? 6+5?": b"same",

@@ -1,7 +1,7 @@
 #!/usr/bin/env bash
-# The header and the archive from C: the header alone, its example and its loop,
-# what the archive holds, every call on good and bad input, and the stack that
-# each uses.
+# The header and the archive from C: the header alone, a source of its version 1,
+# its example and its loop, what the archive holds, every call on good and bad
+# input, and the stack that each uses.
 source "$(dirname "${BASH_SOURCE[0]}")/common.bash"
 
 alone() {
@@ -14,6 +14,16 @@ alone gcc c c99
 alone gcc c c17
 alone g++ c++ c++98
 alone g++ c++ c++17
+
+# The last word of a schedule was `expiry`, a month, in version 1 of the interface: a source that uses it must not compile.
+uses() {
+    printf '#include "leap.h"\nuint32_t used(const leap_schedule *s) { return s->%s; }\n' "$1" \
+        | LC_ALL=C gcc -std=c99 "${strict[@]}" -x c -fsyntax-only -
+}
+quietly "a source that uses expiry_mjd does not compile" uses expiry_mjd
+! uses expiry >"$log" 2>&1 || fail "a source that uses the field expiry compiles"
+grep -q "no member named 'expiry'" "$log" || fail "a source that uses the field expiry does not compile, for another reason"
+ok "header: a source that uses the field of version 1 does not compile"
 
 # The example stands in the header's first comment, indented by five.
 {
@@ -69,13 +79,21 @@ size "$LEAP_LIB_DIR/libleap.a" | awk 'NR > 1 { sum += $2 + $3; n++ } END { exit 
 ok "archive: no data that can change, so no state"
 
 # Readers clear the words that they fill, writers and calls for many make arrays, calls about two lists make both, a replay stores and resets;
-# a single question looks at the words where they stand.
-copying=$(objdump -dr "$LEAP_LIB_DIR/libleap.a" \
-    | awk '/^[0-9a-f]+ <.*>:$/ { name = $2 } /mem(cpy|move|set)/ { print name }' | sort -u)
+# a single question looks at the words where they stand. The check and the extension of a list by value belong to writers and to calls about two lists.
+listing=$(objdump -dr "$LEAP_LIB_DIR/libleap.a")
+# within PATTERN: the functions whose code shows it
+within() {
+    awk -v pattern="$1" '/^[0-9a-f]+ <.*>:$/ { name = $2 } $0 ~ pattern { print name }' <<<"$listing" | sort -u
+}
+copying=$(within 'mem(cpy|move|set)')
 grep -q '<leap_read_text>' <<<"$copying" || fail "objdump shows no copy at all"
-copiers='leap_(read|write)_|leap_.*_many>|leap_(compare_text|longer_text|extends|replay)>|(text|nybbles|compare|replay)::'
+by_value='schedule::(extends|is_well_formed)'
+two_lists='leap_(compare_text|longer_text|extends)>|compare::'
+copiers="leap_(read|write)_|leap_.*_many>|$two_lists|leap_replay>|(text|nybbles|replay)::|$by_value>"
 questions=$(grep -vE "^<($copiers)" <<<"$copying") || true
 [ -z "$questions" ] || fail "the archive copies or clears memory in ${questions//$'\n'/ }"
+callers=$(within "$by_value[-+]" | grep -vE "^<(leap_write_|(text|nybbles)::|$two_lists|$by_value>)") || true
+[ -z "$callers" ] || fail "the archive copies a list for ${callers//$'\n'/ }"
 ok "archive: no single question copies or clears memory"
 
 for test in lists times malformed many compare replay; do

@@ -1,5 +1,5 @@
-/* The calls of leap.h about two lists. The expected values stand here as request
- * 7/14 gives them, or are worked out beside them from its rules. */
+/* The calls of leap.h about two lists. The expected values stand here as requests
+ * 7/14 and 10/14 give them, or are worked out beside them from their rules. */
 #include "asked.h"
 
 /* Two lists, lent, and the check that they stay. */
@@ -95,23 +95,27 @@ static void longer(const char *one, const char *other, int which)
 
 static void lines(void)
 {
-    begin("compare: the example of 7/14");
-    compares("6+6+5?", "6+12+5?", "12 + 0\n18 ? +\n= 17 23\ncontradict\n");
-    compares("6+12+5?", "6+6+5?", "12 0 +\n18 + ?\n= 23 17\ncontradict\n");
+    /* Months 17 and 23 are June and December 1973: 366 + 151 and 366 + 334 days from
+     * MJD 41317 on. */
+    begin("compare: the example of 7/14, with the expiries of 10/14");
+    compares("6+6+5?", "6+12+5?", "12 + 0\n18 ? +\n= 41834 42017\ncontradict\n");
+    compares("6+12+5?", "6+6+5?", "12 0 +\n18 + ?\n= 42017 41834\ncontradict\n");
     end();
 
+    /* The expiries are MONTH_5 and others of lent.h; month 8 is September 1972, 244 days
+     * on. */
     begin("compare: the same list, a longer one, and one that contradicts");
     compares("6+5?", "6+5?", "same\n");
     compares("999+999-402?", "999+999-402?", "same\n");
-    compares("6?", "6+5?", "6 ? +\n= 6 11\nextends 2\n");
-    compares("6+5?", "6?", "6 + ?\n= 11 6\nextends 1\n");
-    compares("5?", "6?", "= 5 6\nextends 2\n");
-    compares("6+5-1?", "6+5?", "11 - ?\n= 12 11\nextends 1\n");
+    compares("6?", "6+5?", "6 ? +\n= 41499 41652\nextends 2\n");
+    compares("6+5?", "6?", "6 + ?\n= 41652 41499\nextends 1\n");
+    compares("5?", "6?", "= 41469 41499\nextends 2\n");
+    compares("6+5-1?", "6+5?", "11 - ?\n= 41683 41652\nextends 1\n");
     compares("11?", "6+5?", "6 0 +\ncontradict\n"); /* both expire at 11 */
     compares("6+5?", "6-5?", "6 + -\ncontradict\n");
-    compares("7+1?", "6+5?", "6 0 +\n7 + 0\n= 8 11\ncontradict\n");
+    compares("7+1?", "6+5?", "6 0 +\n7 + 0\n= 41561 41652\ncontradict\n");
     /* 999 + 999 + 401 is 2399, the last month that may have a leap. */
-    compares("999+999+401?", "999+999+401-1?", "2399 ? -\n= 2399 2400\nextends 2\n");
+    compares("999+999+401?", "999+999+401-1?", "2399 ? -\n= 114335 114366\nextends 2\n");
     end();
 }
 
@@ -127,8 +131,9 @@ static const char *of_gaps(char *list, int first_gap, int leaps, int step, int l
 
 /* 256 leaps each: at 999 and 1001, 1003, .., 1509, and at 998 and 1000, 1002, ..,
  * 1508. No month is shared and none is unknown to either, so there are 512 lines:
- * 510 of 9 bytes, and those of 998 and 999 with 8. The line of the expiries has
- * 12 bytes and the last one 11, which makes 4590 + 16 + 12 + 11 = 4629. */
+ * 510 of 9 bytes, and those of 998 and 999 with 8. The line of the expiries, months
+ * 2399 and 2400, has 16 bytes and the last one 11, which makes 4590 + 16 + 16 + 11 =
+ * 4633. */
 static void longest(void)
 {
     static char one[1024], other[1024], lines[8192];
@@ -136,14 +141,14 @@ static void longest(void)
     int month;
     for (month = 998; month <= 1509; month++)
         at += sprintf(at, "%d %s\n", month, month % 2 == 1 ? "+ 0" : "0 +");
-    strcpy(at, "= 2399 2400\ncontradict\n");
+    strcpy(at, "= 114335 114366\ncontradict\n");
 
     begin("compare: the room that holds any comparison");
-    same("the longest", "length", strlen(lines), 4629);
-    same("the longest", "LEAP_COMPARISON_ROOM", LEAP_COMPARISON_ROOM, 4629);
+    same("the longest", "length", strlen(lines), 4633);
+    same("the longest", "LEAP_COMPARISON_ROOM", LEAP_COMPARISON_ROOM, 4633);
     lend(of_gaps(one, 999, 256, 2, 890), of_gaps(other, 998, 256, 2, 892));
-    compares_into(4629, LEAP_OK, lines);
-    compares_into(4628, LEAP_OUTPUT_SHORT, "");
+    compares_into(4633, LEAP_OK, lines);
+    compares_into(4632, LEAP_OUTPUT_SHORT, "");
     compares_into(8000, LEAP_OK, lines);
     hands_back(NONE, LEAP_CONTRADICTION);
     end();
@@ -199,15 +204,16 @@ static void handed_back(void)
 
 /* ---- extension ---- */
 
-/* Whether one list extends the other, in 01's words: its leaps below the other's
- * expiry are all of the other's, and its own expiry is no earlier. */
+/* Whether one list extends the other, in the words of 01 and 10/14: its leaps in
+ * months that start before the other's expiry day are all of the other's, and its own
+ * expiry is no earlier. */
 static int in_words(const leap_schedule *l, const leap_schedule *s)
 {
-    uint32_t below = 0;
-    while (below < l->count && l->leap[below].month < s->expiry)
-        below++;
-    return below == s->count && memcmp(l->leap, s->leap, below * sizeof *l->leap) == 0
-           && l->expiry >= s->expiry;
+    uint32_t known = 0;
+    while (known < l->count && first_day(l->leap[known].month) < s->expiry_mjd)
+        known++;
+    return known == s->count && memcmp(l->leap, s->leap, known * sizeof *l->leap) == 0
+           && l->expiry_mjd >= s->expiry_mjd;
 }
 
 static void extends(const char *call, leap_schedule longer, leap_schedule shorter,
@@ -223,36 +229,70 @@ static void extends(const char *call, leap_schedule longer, leap_schedule shorte
     untouched(call, one_area, 1);
 }
 
-static void extension(void)
+/* Of lists that expire on the first of a month. */
+static void extension_to_the_month(void)
 {
     static const leap_second at_expiry[2] = {{6, 0}, {11, 1}}, before_it[2] = {{6, 0}, {10, 1}};
-    size_t i, j, yes = 0;
-    add_good();
-    add("12?, no leaps", schedule(0, NULL, 12), 1);
-    add("6+6?", schedule(1, &PLUS_6, 12), 1);
-    add("6+5-1?", schedule(2, at_expiry, 12), 1);
-    add("6+4-2?", schedule(2, before_it, 12), 1);
+    leap_schedule six = schedule(1, &PLUS_6, MONTH_12);
+    add("12?, no leaps", schedule(0, NULL, MONTH_12), 1);
+    add("6+6?", six, 1);
+    add("6+5-1?", schedule(2, at_expiry, MONTH_12), 1);
+    add("6+4-2?", schedule(2, before_it, MONTH_12), 1);
 
     begin("compare: extension by hand");
     extends("6+5? of itself", list_plus(), list_plus(), LEAP_OK, 1);
-    extends("6+6? of 6+5?", schedule(1, &PLUS_6, 12), list_plus(), LEAP_OK, 1);
-    extends("6+5? of 6+6?", list_plus(), schedule(1, &PLUS_6, 12), LEAP_OK, 0);
-    extends("6+5-1? of 6+5?", schedule(2, at_expiry, 12), list_plus(), LEAP_OK, 1);
-    extends("6+4-2? of 6+5?", schedule(2, before_it, 12), list_plus(), LEAP_OK, 0);
+    extends("6+6? of 6+5?", six, list_plus(), LEAP_OK, 1);
+    extends("6+5? of 6+6?", list_plus(), six, LEAP_OK, 0);
+    extends("6+5-1? of 6+5?", schedule(2, at_expiry, MONTH_12), list_plus(), LEAP_OK, 1);
+    extends("6+4-2? of 6+5?", schedule(2, before_it, MONTH_12), list_plus(), LEAP_OK, 0);
     extends("6-5? of 6+5?", list_n(), list_plus(), LEAP_OK, 0);
-    extends("12? of 6+5?", schedule(0, NULL, 12), list_plus(), LEAP_OK, 0);
-    extends("6+5? of 6?", list_plus(), schedule(0, NULL, 6), LEAP_OK, 1);
-    extends("6+5? of 7?", list_plus(), schedule(0, NULL, 7), LEAP_OK, 0);
+    extends("12? of 6+5?", schedule(0, NULL, MONTH_12), list_plus(), LEAP_OK, 0);
+    extends("6+5? of 6?", list_plus(), schedule(0, NULL, MONTH_6), LEAP_OK, 1);
+    extends("6+5? of 7?", list_plus(), schedule(0, NULL, MONTH_7), LEAP_OK, 0);
     end();
+}
 
-    begin("compare: extension of each good list by each, in 01's words");
+/* Of lists that expire within a month. The one to 28 December 1972 knows that month 11
+ * has no leap, and nothing of month 12; and a list knows what happens at month 6 if it
+ * expires after MONTH_6, that is from 2 July 1972 on. */
+static void extension_to_the_day(void)
+{
+    static const leap_second in_11[2] = {{6, 0}, {11, 0}}, in_12[2] = {{6, 0}, {12, 0}};
+    leap_schedule to_28 = schedule(1, &PLUS_6, 41679), to_29 = schedule(1, &PLUS_6, 41680);
+    leap_schedule soon = schedule(1, &PLUS_6, MONTH_6 + 1);
+    leap_schedule none = schedule(0, NULL, MONTH_6 + 1);
+
+    begin("compare: extension of lists that expire within a month");
+    extends("to the 29th of to the 28th", to_29, to_28, LEAP_OK, 1);
+    extends("to the 28th of to the 29th", to_28, to_29, LEAP_OK, 0);
+    extends("to the 28th of 6+5?", to_28, list_plus(), LEAP_OK, 1);
+    extends("6+5? of to the 28th", list_plus(), to_28, LEAP_OK, 0);
+    extends("6+6? of to the 28th", schedule(1, &PLUS_6, MONTH_12), to_28, LEAP_OK, 1);
+    extends("a leap at 11", schedule(2, in_11, 41700), to_28, LEAP_OK, 0);
+    extends("a leap at 11, of 6+5?", schedule(2, in_11, 41700), list_plus(), LEAP_OK, 1);
+    extends("a leap at 12", schedule(2, in_12, 41700), to_28, LEAP_OK, 1);
+    extends("of none to the month's first", soon, schedule(0, NULL, MONTH_6), LEAP_OK, 1);
+    extends("of none to the day after", soon, none, LEAP_OK, 0);
+    extends("by none to the day after", none, soon, LEAP_OK, 0);
+    extends("by the other sign", schedule(1, &MINUS_6, MONTH_6 + 1), soon, LEAP_OK, 0);
+    end();
+}
+
+static void extension(void)
+{
+    size_t i, j, yes = 0;
+    add_good();
+    extension_to_the_month();
+    extension_to_the_day();
+
+    begin("compare: extension of each good list by each, in the papers' words");
     for (i = 0; i < list_count; i++)
         for (j = 0; j < list_count; j++) {
             int want = in_words(&lists[i].list, &lists[j].list);
             extends(lists[i].name, lists[i].list, lists[j].list, LEAP_OK, (uint8_t)want);
             yes += want && i != j;
         }
-    same("extension", "too few that extend another", yes < 5, 0);
+    same("extension", "too few that extend another", yes < 20, 0);
     end();
 
     begin("compare: extension with a schedule that is not well formed");

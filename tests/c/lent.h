@@ -15,6 +15,7 @@
 #include <sys/mman.h>
 #include <unistd.h>
 
+#include "days.h"
 #include "leap.h"
 
 #define U(n) UINT64_C(n)
@@ -101,21 +102,21 @@ static inline void new_areas(void)
 
 /* ---- schedules ---- */
 
-static inline leap_schedule schedule(uint32_t count, const leap_second *leaps, uint32_t expiry)
+static inline leap_schedule schedule(uint32_t count, const leap_second *leaps, uint32_t expiry_mjd)
 {
     leap_schedule s;
     memset(&s, 0, sizeof s);
     if (count > 0)
         memcpy(s.leap, leaps, count * sizeof *leaps);
     s.count = count;
-    s.expiry = expiry;
+    s.expiry_mjd = expiry_mjd;
     return s;
 }
 
 static const leap_second PLUS_6 = {6, 0}, MINUS_6 = {6, 1};
 
-static inline leap_schedule list_plus(void) { return schedule(1, &PLUS_6, 11); }   /* 6+5? */
-static inline leap_schedule list_n(void) { return schedule(1, &MINUS_6, 11); }     /* 6-5? */
+static inline leap_schedule list_plus(void) { return schedule(1, &PLUS_6, MONTH_11); } /* 6+5? */
+static inline leap_schedule list_n(void) { return schedule(1, &MINUS_6, MONTH_11); }   /* 6-5? */
 
 static inline leap_schedule list_b(void)
 {
@@ -127,7 +128,7 @@ static inline leap_schedule list_b(void)
         leap[i].month = month += gap[i];
         leap[i].negative = 0;
     }
-    return schedule(27, leap, 599);
+    return schedule(27, leap, MONTH_599);
 }
 
 /* `wide` gaps of that many months and then gaps of 1 up to 256 leaps and the
@@ -140,7 +141,7 @@ static inline leap_schedule list_of_gaps(uint32_t wide, uint32_t months)
     for (i = 0; i < 256; i++)
         s.leap[i].month = month += i < wide ? months : 1;
     s.count = 256;
-    s.expiry = month + 1;
+    s.expiry_mjd = first_day(month + 1);
     return s;
 }
 

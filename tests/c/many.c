@@ -283,7 +283,9 @@ int main(void)
     new_areas();
     for (array = FIRST; array < ARRAYS; array++)
         areas[array] = new_area();
-    walk_months();
+    begin("many: the calendar of the tests");
+    same("the calendar", "January 2172", first_day(2400), MONTH_2400);
+    end();
     add_good();
     add_malformed();
     for (kind = 0; kind < KINDS; kind++)

@@ -1,5 +1,5 @@
 /* The calls of leap.h that replay a trace. The expected lines stand here as request
- * 12/14 gives them, or are worked out beside them from its rules and 01's. */
+ * 12/14 gives them, or are worked out beside them from its rules, 01's and 10/14's. */
 #include "asked.h"
 
 enum { LINE = LEAP_REPLAY_ROOM, HELD = LEAP_REPLAY_HELD, LONG = 200000 };
@@ -20,7 +20,7 @@ static memory of(leap_schedule current, leap_schedule stored)
 }
 
 static leap_schedule blank(void) { return schedule(0, NULL, 0); }
-static leap_schedule gap_of_5(void) { return schedule(0, NULL, 5); } /* 5? */
+static leap_schedule gap_of_5(void) { return schedule(0, NULL, MONTH_5); } /* 5? */
 
 static void call_it(const char *trace, size_t length)
 {
@@ -344,6 +344,28 @@ static void the_end(void)
     end();
 }
 
+/* ---- lists that are handed in ---- */
+
+/* The list held expires on 28 December 1972, so that the day before is known whole;
+ * 6+5?, which a trace can use, expires on the first, and is extended by it. */
+static void held(void)
+{
+    static const char z[] = "Q 41678 86399999999\nQ 41678 86400000000\nQ 41679 0\n";
+    static const char answers[] = "41678 86399999999000\n!9\n!10\n";
+    static const char used[] = "S\nL 6+5?\nQ 41651 85398999999\nQ 41651 85399000000\nQ 41652 0\n";
+    static const char later[] = "Z\nQ 41651 85399000000\nQ 41652 0\n";
+    leap_schedule to_28 = schedule(1, &PLUS_6, 41679);
+    memory start = of(to_28, blank()), stored = of(list_plus(), to_28), both = of(to_28, to_28);
+
+    begin("replay: from a list that expires within a month");
+    replays(start, z, sizeof z - 1, 100, LEAP_OK, sizeof z - 1, answers, start);
+    replays(start, used, sizeof used - 1, 100, LEAP_OK, sizeof used - 1,
+            "41651 85398999999000\n!10\n!10\n", stored);
+    replays(stored, later, sizeof later - 1, 100, LEAP_OK, sizeof later - 1,
+            "41651 85399000000000\n41652 0\n", both);
+    end();
+}
+
 /* ---- any words ---- */
 
 static void any_words(void)
@@ -417,7 +439,6 @@ int main(void)
     new_areas();
     current_area = new_area();
     stored_area = new_area();
-    walk_months();
     add_good();
     worked();
     refused();
@@ -426,6 +447,7 @@ int main(void)
     long_lines();
     rooms();
     the_end();
+    held();
     any_words();
     as_single();
     return 0;

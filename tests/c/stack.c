@@ -13,6 +13,7 @@
 #include <sys/wait.h>
 #include <unistd.h>
 
+#include "days.h"
 #include "leap.h"
 
 enum { LIMIT = 65536, PAINTED = 4 << 20, PAINT = 0xc5, INPUT = 1 << 20, MANY = 100000 };
@@ -155,17 +156,19 @@ static void dense(uint32_t wide)
         schedule.leap[i].negative = i == 255;
     }
     schedule.count = 256;
-    schedule.expiry = month + 1;
+    schedule.expiry_mjd = first_day(month + 1);
 }
 
 static void dense_1(void) { dense(1); }
 static void dense_10(void) { dense(10); }
 static void dense_17(void) { dense(17); }
+/* The last day of month 999. */
 static void longest_gap(void)
 {
     memset(&schedule, 0, sizeof schedule);
-    schedule.expiry = 999;
+    schedule.expiry_mjd = MONTH_999 + 29;
 }
+static void no_gap(void) { dense(1), schedule.expiry_mjd--; }
 
 /* 256 leaps, 9 months apart. The last, a negative one, is at month 2304, January
  * 2164. The 192 years before that have 47 leap days (2100 has none), 70,127 days
@@ -183,8 +186,16 @@ static void ask_nanos(void) { ask(111443, UINT64_C(86399999999999)); }
 static void ask_tai(void) { ask(UINT64_C(86400000000) * (111444 - 41317) + 264000000, 0); }
 static void ask_first(void) { ask(41317, 0); }
 static void ask_far(void) { ask(UINT64_MAX, 0); }
+/* Under an expiry 27 days later, 28 February 2164, the last microsecond of the day
+ * before: 31 + 26 days after the last leap's month starts. */
+static void ask_last(uint64_t a, uint64_t b) { ask(a, b), schedule.expiry_mjd += 27; }
+static void last_micros(void) { ask_last(111501, UINT64_C(86399999999)); }
+static void last_tai(void)
+{
+    ask_last(UINT64_C(86400000000) * (111502 - 41317) + 264000000 - 1, 0);
+}
 static void malformed(void) { ask_first(), schedule.leap[255].negative = 2; }
-static void two_dense(void) { dense(9), shorter = schedule, schedule.expiry++; }
+static void two_dense(void) { dense(9), shorter = schedule, schedule.expiry_mjd++; }
 static void shorter_malformed(void) { two_dense(), shorter.leap[255].negative = 2; }
 
 /* Traces, under 256 leaps. The longest list has 752 bytes; of the answers to its
@@ -224,10 +235,12 @@ static const struct {
     {"read_nybbles, 1 MiB of C0", nybbles_c0, read_nybbles, 3},
     {"write_text, 256 leaps", dense_1, write_text, 0},
     {"write_text, the longest list", dense_10, write_text, 0},
+    {"write_text, no gap", no_gap, write_text, 17},
     {"write_text, malformed", malformed, write_text, 11},
     {"write_nybbles, 256 leaps", dense_1, write_nybbles, 0},
     {"write_nybbles, the longest list", dense_17, write_nybbles, 0},
     {"write_nybbles, a gap of 999", longest_gap, write_nybbles, 0},
+    {"write_nybbles, no gap", no_gap, write_nybbles, 17},
     {"write_nybbles, malformed", malformed, write_nybbles, 11},
     {"compare_text, the longest output", two_unlike, compare_text, 0},
     {"compare_text, the longest lists", two_longest, compare_text, 0},
@@ -251,20 +264,26 @@ static const struct {
     {"dtai, 256 leaps", ask_day, ask_dtai, 0},
     {"dtai, malformed", malformed, ask_dtai, 11},
     {"utc_to_tai, 256 leaps", ask_micros, utc_to_tai, 0},
+    {"utc_to_tai, a last day known whole", last_micros, utc_to_tai, 0},
     {"utc_to_tai, a far day", ask_far, utc_to_tai, 10},
     {"tai_to_utc, 256 leaps", ask_tai, tai_to_utc, 0},
+    {"tai_to_utc, a last day known whole", last_tai, tai_to_utc, 0},
     {"tai_to_utc, a far TAI", ask_far, tai_to_utc, 10},
     {"utc_to_uts, 256 leaps", ask_micros, utc_to_uts, 0},
+    {"utc_to_uts, a last day known whole", last_micros, utc_to_uts, 0},
     {"utc_to_uts, the first day", ask_first, utc_to_uts, 0},
     {"uts_to_utc, 256 leaps", ask_nanos, uts_to_utc, 0},
     {"uts_to_utc, the first day", ask_first, uts_to_utc, 0},
     {"dtai_many, 256 leaps", ask_day, dtai_many, 0},
     {"dtai_many, malformed", malformed, dtai_many, 11},
     {"utc_to_tai_many, 256 leaps", ask_micros, utc_to_tai_many, 0},
+    {"utc_to_tai_many, a last day known whole", last_micros, utc_to_tai_many, 0},
     {"utc_to_tai_many, a far day", ask_far, utc_to_tai_many, 10},
     {"tai_to_utc_many, 256 leaps", ask_tai, tai_to_utc_many, 0},
+    {"tai_to_utc_many, a last day known whole", last_tai, tai_to_utc_many, 0},
     {"tai_to_utc_many, a far TAI", ask_far, tai_to_utc_many, 10},
     {"utc_to_uts_many, 256 leaps", ask_micros, utc_to_uts_many, 0},
+    {"utc_to_uts_many, a last day known whole", last_micros, utc_to_uts_many, 0},
     {"utc_to_uts_many, the first day", ask_first, utc_to_uts_many, 0},
     {"uts_to_utc_many, 256 leaps", ask_nanos, uts_to_utc_many, 0},
     {"uts_to_utc_many, the first day", ask_first, uts_to_utc_many, 0},

@@ -1,5 +1,5 @@
 /* The five questions of leap.h at their edges. The expected values stand here as
- * 01 gives them, or are worked out beside them from its rules. */
+ * 01 and request 10/14 give them, or are worked out beside them from their rules. */
 #include "lent.h"
 
 static leap_schedule asked;
@@ -83,11 +83,11 @@ static void dates(void)
     dtai(41498, LEAP_OK, 10);
     dtai(41499, LEAP_OK, 9);
     /* Eleven leaps down from 10; month 11 is December 1972, MJD 41652. */
-    asked = schedule(11, minus, 12);
+    asked = schedule(11, minus, MONTH_12);
     dtai(41651, LEAP_OK, 0);
     dtai(41652, LEAP_OK, -1);
     /* Up to January 2172, MJD 114366. */
-    asked = schedule(2, far, 2400);
+    asked = schedule(2, far, MONTH_2400);
     dtai(114365, LEAP_OK, 12);
     dtai(114366, LEAP_NOT_KNOWN, 0);
     end();
@@ -204,11 +204,109 @@ static void smoothed(void)
     end();
 }
 
+/* The instants of a Z that is known whole: all of its 86,400 s, and nothing after it.
+ * `midnight` is the TAI of its start. */
+static void whole_day(uint64_t z, int32_t offset, uint64_t midnight)
+{
+    static const uint64_t TIMES[] = {0, U(85398999999), U(85399000000), U(86398999999),
+                                     U(86399000000), U(86399999999)};
+    size_t i;
+    dtai(z, LEAP_OK, offset);
+    for (i = 0; i < sizeof TIMES / sizeof *TIMES; i++) {
+        tai(z, TIMES[i], LEAP_OK, midnight + TIMES[i]);
+        utc(midnight + TIMES[i], LEAP_OK, z, TIMES[i]);
+        uts(z, TIMES[i], LEAP_OK, 1000 * TIMES[i]);
+        unsmooth(z, 1000 * TIMES[i], LEAP_OK, TIMES[i]);
+        unsmooth(z, 1000 * TIMES[i] + 999, LEAP_OK, TIMES[i]);
+    }
+    tai(z, U(86400000000), LEAP_NO_INSTANT, 0);
+    uts(z, U(86400000000), LEAP_NO_INSTANT, 0);
+    tai(z, U(86400999999), LEAP_NO_INSTANT, 0);
+    uts(z, U(86400999999), LEAP_NO_INSTANT, 0);
+    unsmooth(z, U(86400000000000), LEAP_NO_INSTANT, 0);
+    utc(midnight + U(86400000000), LEAP_NOT_KNOWN, 0, 0);
+    dtai(z + 1, LEAP_NOT_KNOWN, 0);
+    tai(z + 1, 0, LEAP_NOT_KNOWN, 0);
+    uts(z + 1, 0, LEAP_NOT_KNOWN, 0);
+    unsmooth(z + 1, 0, LEAP_NOT_KNOWN, 0);
+    tai(z + 1, U(86401000000), LEAP_NO_INSTANT, 0);
+    uts(z + 1, U(86400000000), LEAP_NOT_KNOWN, 0);
+}
+
+static void last_days(void)
+{
+    static const leap_second far[2] = {{999, 0}, {1998, 0}};
+
+    /* 10/14's 41360: Z is day 42, 3,628,800 s from the start of 1972. */
+    begin("times: the last day before an expiry within a month");
+    asked = schedule(0, NULL, 41360);
+    whole_day(41359, 10, U(3628810000000));
+    /* 1 January 1972 alone. */
+    asked = schedule(0, NULL, 41318);
+    whole_day(41317, 10, 10000000);
+    /* 28 December 1972: Z is day 361, 31,190,400 s. */
+    asked = schedule(1, &PLUS_6, 41679);
+    whole_day(41678, 11, U(31190411000000));
+    asked = schedule(1, &MINUS_6, 41679);
+    whole_day(41678, 9, U(31190409000000));
+    /* 31 December 1972: Z is the 30th, day 364, 31,449,600 s. */
+    asked = schedule(1, &PLUS_6, MONTH_12 - 1);
+    whole_day(41681, 11, U(31449611000000));
+    /* 2 December 1972: Z is the first of a month, day 335, 28,944,000 s. */
+    asked = schedule(1, &PLUS_6, MONTH_11 + 1);
+    whole_day(41652, 11, U(28944011000000));
+    end();
+
+    /* The expiry is 1 January 1973: Z is day 365, 31,536,000 s, and is cut off. */
+    begin("times: the last day before an expiry on the first of a month");
+    asked = schedule(1, &PLUS_6, MONTH_12);
+    dtai(41682, LEAP_OK, 11);
+    tai(41682, U(86398999999), LEAP_OK, U(31622409999999));
+    tai(41682, U(86399000000), LEAP_NOT_KNOWN, 0);
+    utc(U(31622409999999), LEAP_OK, 41682, U(86398999999));
+    utc(U(31622410000000), LEAP_NOT_KNOWN, 0, 0);
+    uts(41682, U(85398999999), LEAP_OK, U(85398999999000));
+    uts(41682, U(85399000000), LEAP_NOT_KNOWN, 0);
+    unsmooth(41682, U(85398999999999), LEAP_OK, U(85398999999));
+    unsmooth(41682, U(85399000000000), LEAP_NOT_KNOWN, 0);
+    dtai(41683, LEAP_NOT_KNOWN, 0);
+    end();
+
+    /* 2 July 1972: Z is the day after the leap, day 182, 15,724,800 s. */
+    begin("times: a leap the day before the last day");
+    asked = schedule(1, &PLUS_6, MONTH_6 + 1);
+    dtai(41498, LEAP_OK, 10);
+    uts(41498, U(86400000000), LEAP_OK, U(86399001000000));
+    tai(41498, U(86400999999), LEAP_OK, U(15724810999999));
+    utc(U(15724810999999), LEAP_OK, 41498, U(86400999999));
+    whole_day(41499, 11, U(15724811000000));
+    asked = schedule(1, &MINUS_6, MONTH_6 + 1);
+    uts(41498, U(86399000000), LEAP_NO_INSTANT, 0);
+    whole_day(41499, 9, U(15724809000000));
+    end();
+
+    /* MJD 114364 is day 73,047, 6,311,260,800 s; DTAI is 12. 114366 is the first of a
+     * month, so that no list knows MJD 114365 whole. */
+    begin("times: the last days that a list can know");
+    asked = schedule(2, far, 114365);
+    whole_day(114364, 12, U(6311260812000000));
+    asked = schedule(2, far, 114366);
+    uts(114364, U(86399999999), LEAP_OK, U(86399999999000));
+    uts(114365, U(85398999999), LEAP_OK, U(85398999999000));
+    uts(114365, U(85399000000), LEAP_NOT_KNOWN, 0);
+    tai(114365, U(86398999999), LEAP_OK, U(6311433610999999));
+    tai(114365, U(86399000000), LEAP_NOT_KNOWN, 0);
+    utc(U(6311433611000000), LEAP_NOT_KNOWN, 0, 0);
+    dtai(114366, LEAP_NOT_KNOWN, 0);
+    end();
+}
+
 int main(void)
 {
     new_areas();
     dates();
     tai_and_utc();
     smoothed();
+    last_days();
     return 0;
 }

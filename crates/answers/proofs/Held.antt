@@ -9,18 +9,18 @@ use lib.Seq.{take-append-seam}
 use borrow.Author.Tests.{le-leb}
 use Rattle.schedule.specs.declared.Schedule.{Schedule}
 use Rattle.schedule.specs.declared.Writing.{Writing}
-use Rattle.schedule.specs.Schedule.{wellFormed}
+use Rattle.schedule.specs.Schedule.{leavesGap, wellFormed}
 use Rattle.schedule.specs.Answers.{fitting, fitted, writing, written}
 
-module _ (s : Schedule) (bytes out : List ℕ) {w : Writing} (f : wellFormed s ≡ true) (room : length bytes ≤ length out) (p : w ≡ writing s bytes (length out)) where
+module _ (s : Schedule) (bytes out : List ℕ) {w : Writing} (f : wellFormed s ≡ true) (g : leavesGap s ≡ true) (room : length bytes ≤ length out) (p : w ≡ writing s bytes (length out)) where
   pub count-is : w .count ≡ length bytes
   unfolding writing fitting
-  count-is = rw p (simp (f, le-leb (length bytes) (length out) room))
+  count-is = rw p (simp (f, g, le-leb (length bytes) (length out) room))
 
   module _ {out′ : List ℕ} (q : out′ ≡ written s bytes out) where
     whole : out′ ≡ bytes ++ drop (length bytes) out
     unfolding written fitted
-    whole = q ∙ simp (f, le-leb (length bytes) (length out) room)
+    whole = q ∙ simp (f, g, le-leb (length bytes) (length out) room)
 
     pub inside : w .count ≤ length out′
     inside = omega (arith, ap length whole, length-append bytes (drop (length bytes) out), count-is)

@@ -3,7 +3,7 @@ ghost use mathlib.Core.Path.{_≡_};
 ghost use mathlib.Core.Bool.{true};
 ghost use Rattle.format.specs.Output.{PutsUpTo};
 ghost use Rattle.format.specs.Hex.{hex};
-ghost use Rattle.schedule.specs.Schedule.{wellFormed};
+ghost use Rattle.schedule.specs.Schedule.{leavesGap, wellFormed};
 ghost use Rattle.text.specs.Read.{readText};
 ghost use Rattle.nybbles.specs.Write.{nybblesOf};
 ghost use Rattle.answers.specs.Inner.{namedBy};
@@ -38,7 +38,7 @@ pub fn read_list(field: &[u8]) -> Reading
 
 // Puts a schedule as nybbles, in hex.
 fn put_nybbles(out: &mut [u8], at: usize, s: Schedule) -> usize
-    requires { ⌜ wellFormed s ≡ true ⌝ }
+    requires { ⌜ (wellFormed s ≡ true) × (leavesGap s ≡ true) ⌝ }
     ensures { λ r. ⌜ PutsUpTo 4800 (now (out .entry)) (now (out .exit)) at r (hex (nybblesOf s)) ⌝ }
 {
     let mut bytes = [0u8; 2400];

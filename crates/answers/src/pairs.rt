@@ -10,7 +10,7 @@ use format::refusal::put_refusal;
 
 // Puts the comparison of two lists, LF between its lines or `; `; of a refusal the number alone.
 pub fn put_comparison(out: &mut [u8], at: usize, lines: bool, x: &[u8], y: &[u8]) -> usize
-    ensures { λ r. ⌜ PutsUpTo 5143 (now (out .entry)) (now (out .exit)) at r (comparisonAnswer lines (now (x .entry)) (now (y .entry))) ⌝ }
+    ensures { λ r. ⌜ PutsUpTo 5147 (now (out .entry)) (now (out .exit)) at r (comparisonAnswer lines (now (x .entry)) (now (y .entry))) ⌝ }
 {
     let first = CURRENT;
     let second = CURRENT;

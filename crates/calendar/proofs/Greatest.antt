@@ -24,6 +24,22 @@ one-more {p} {n} {g} q r = record { within = omega arith; passes = r .passes; ab
           | no l ↦ r .above j a (omega arith)
         ]
 
+-- what `greatest` finds is at most n
+pub greatest-within : (p : ℕ → Bool) (n : ℕ) → greatest p n ≤ n
+unfolding greatest
+greatest-within p zero = omega arith
+greatest-within p (suc n) = go (greatest-within p n) (p (suc n))
+  where
+    go : greatest p n ≤ n → (b : Bool) → cond b (suc n) (greatest p n) ≤ suc n
+    go h true = omega arith
+    go h false = omega arith
+
+-- where none passes, it finds 0
+pub greatest-none : (p : ℕ → Bool) (n : ℕ) → ((j : ℕ) → p j ≡ false) → greatest p n ≡ 0
+unfolding greatest
+greatest-none p zero h = refl
+greatest-none p (suc n) h = rw (h (suc n)) (greatest-none p n h)
+
 -- where some number up to n passes, `greatest` finds the greatest
 pub greatest-found : (p : ℕ → Bool) (n k : ℕ) → k ≤ n → p k ≡ true → Greatest p n (greatest p n)
 unfolding greatest

@@ -8,7 +8,7 @@ use native.Mathlib.Nat.{add-zero, add-suc}
 use native.Mathlib.Numerals.{add-one}
 use native.Mathlib.Omega.{arith}
 use native.Mathlib.Decide.{decLt}
-use borrow.Author.Tests.{leb-true, leb-false, le-leb, lt-leb, lt-ltb, le-ltb}
+use borrow.Author.Tests.{leb-true, leb-false, le-leb, lt-leb, lt-ltb, le-ltb, eqb-true, eqb-false, eq-eqb, ne-eqb}
 use lib.Dec.{leb}
 use lib.ListN.{length, getD}
 use Rattle.refusals.specs.Refusals.{before1972, notKnown}
@@ -23,12 +23,13 @@ use Rattle.calendar.specs.Calendar.{
   monthStart,
   InMonth,
   monthOf,
+  startsMonth,
   found,
   refused,
   monthAt,
 }
 use Rattle.calendar.specs.declared.Lookup.{Lookup}
-use Rattle.calendar.proofs.Greatest.{greatest-found, greatest-is}
+use Rattle.calendar.proofs.Greatest.{greatest-within, greatest-none, greatest-found, greatest-is}
 use Rattle.calendar.proofs.Gregorian.{closed-form}
 
 -- ---- the months and their starts
@@ -154,6 +155,66 @@ in-month {d} p q =
 -- the month of such a day is below 2400
 pub month-below : {d : ℕ} → firstDay ≤ d → d < endDay → monthOf d < lastMonth
 month-below p q = not-started lastMonth (in-month p q) (omega (arith, start-last))
+
+-- from the start of month 2400 on the month is 2400
+pub late-month : {d : ℕ} → endDay ≤ d → monthOf d ≡ lastMonth
+unfolding monthOf
+late-month {d} h =
+    greatest-is record {
+      within = omega arith;
+      passes = le-leb (monthStart lastMonth) d (omega (arith, start-last));
+      above = λ j a b. absurd (omega arith);
+    }
+
+-- before 1972 it is 0, since none has started
+pub early-month : {d : ℕ} → d < firstDay → monthOf d ≡ 0
+unfolding monthOf
+early-month {d} h = greatest-none (λ m. leb (monthStart m) d) lastMonth (λ j. lt-leb (monthStart j) d (omega (arith, start-from j)))
+
+-- it is at most 2400
+pub month-most : (d : ℕ) → monthOf d ≤ lastMonth
+unfolding monthOf
+month-most d = greatest-within (λ m. leb (monthStart m) d) lastMonth
+
+-- the month of a day from 1972 on has started by then
+pub month-started : (d : ℕ) → firstDay ≤ d → monthStart (monthOf d) ≤ d
+month-started d h =
+    elim (decLt d endDay) [
+      | yes l ↦ in-month h l .from
+      | no l ↦ let e : endDay ≤ d = omega arith in omega (arith, start-last, ap monthStart (late-month e))
+    ]
+
+-- the month of a month's first day is that month
+pub month-of-start : {m : ℕ} → m ≤ lastMonth → monthOf (monthStart m) ≡ m
+month-of-start {m} h =
+    elim (decLt m lastMonth) [
+      | yes l ↦ is-month l (first-in m)
+      | no l ↦
+          let e : m ≡ lastMonth = omega arith in
+          late-month (omega (arith, start-last, ap monthStart e)) ∙ sym e
+    ]
+
+-- ---- first days
+
+-- a month starts on its first day
+pub starts-month : {m : ℕ} → m ≤ lastMonth → startsMonth (monthStart m) ≡ true
+unfolding startsMonth
+starts-month {m} h = eq-eqb (monthStart (monthOf (monthStart m))) (monthStart m) (ap monthStart (month-of-start h))
+
+-- a first day is that of its month
+pub first-of : {d : ℕ} → startsMonth d ≡ true → monthStart (monthOf d) ≡ d
+unfolding startsMonth
+first-of {d} e = eqb-true (monthStart (monthOf d)) d e
+
+-- past the calendar there is none
+pub first-past : {d : ℕ} → endDay < d → startsMonth d ≡ false
+unfolding startsMonth
+first-past {d} h = ne-eqb (monthStart (monthOf d)) d (λ e. omega (arith, start-to (month-most d)))
+
+-- and no month starts on another day
+pub no-start : {d : ℕ} → startsMonth d ≡ false → (m : ℕ) → m ≤ lastMonth → (monthStart m ≡ d → ⊥)
+unfolding startsMonth
+no-start {d} e m h z = eqb-false (monthStart (monthOf d)) d e (ap monthStart (ap monthOf (sym z) ∙ month-of-start h) ∙ z)
 
 -- ---- the lookup's three answers
 

@@ -55,6 +55,10 @@ pub record InMonth (d m : ℕ) : Type 0 where
 unfoldable pub monthOf : ℕ → ℕ
 monthOf d = greatest (λ m. leb (monthStart m) d) lastMonth
 
+-- day d is the first of a month, up to month 2400
+unfoldable pub startsMonth : ℕ → Bool
+startsMonth d = eqb (monthStart (monthOf d)) d
+
 -- month m is at most one month off for day d, and never early: it is the month of that day, or the next
 pub record MonthOrNext (d m : ℕ) : Type 0 where
   pub low : monthOf d ≤ m

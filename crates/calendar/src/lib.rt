@@ -2,7 +2,7 @@
 // A day is a Modified Julian Day; month 0 is January 1972.
 ghost use mathlib.Core.Path.{_≡_};
 ghost use Prim.Native.Nat.{min, _≤_, _<_};
-ghost use Rattle.calendar.specs.Calendar.{firstDay, lastMonth, endDay, monthStart, monthOf, MonthOrNext, monthAt, found, refused};
+ghost use Rattle.calendar.specs.Calendar.{firstDay, lastMonth, endDay, monthStart, monthOf, MonthOrNext, startsMonth, monthAt, found, refused};
 
 mod table;
 
@@ -119,4 +119,24 @@ pub fn month_of(day: u64) -> Lookup
         return refused(NOT_KNOWN);
     }
     found(month_by_estimate(day))
+}
+
+// The last month, up to month 2400, that has started by a day; month 0 where none has.
+pub fn latest_month(day: u64) -> u16
+    ensures { λ r. ⌜ r ≡ monthOf day ⌝ }
+{
+    if day < FIRST_DAY {
+        return 0;
+    }
+    if day < END_DAY {
+        return month_by_estimate(day);
+    }
+    LAST_MONTH
+}
+
+// Whether a day is the first of a month, up to month 2400.
+pub fn is_first(day: u64) -> bool
+    ensures { λ r. ⌜ r ≡ startsMonth day ⌝ }
+{
+    first_day(latest_month(day)) == day
 }

@@ -10,21 +10,22 @@ use lib.Dec.{leb, ltb}
 use borrow.Author.Tests.{ltb-true, leb-true, lt-ltb, le-leb}
 use Rattle.refusals.specs.Refusals.{before1972, noInstant, notKnown, notWellFormed}
 use Rattle.calendar.specs.Calendar.{firstDay}
-use Rattle.calendar.proofs.Laws.{start-le}
 use Rattle.schedule.specs.declared.Sign.{Sign}
 use Rattle.schedule.specs.declared.Sign.the-variants.{Positive, Negative}
 use Rattle.schedule.specs.declared.Schedule.{Schedule}
 use Rattle.schedule.specs.Schedule.{leapsOf, wellFormed}
 use Rattle.schedule.specs.Extends.{Extends}
+use Rattle.schedule.proofs.Cases.{by-bool}
+use Rattle.schedule.proofs.Gaps.{parts}
 use Rattle.clock.specs.Days.{longDay, shortDay, tally, dtai, endingBefore, ending, dayLength, tai}
 use Rattle.clock.specs.Smoothed.{nanosPerDay, uts, utcOf}
-use Rattle.clock.specs.Known.{lastDay, taiCutoff, utsCutoff, nanosCutoff, known, knownDate, knownTai}
-use Rattle.clock.specs.Question.{Answer, given, refused, require, firstTai, atInstant, atUtc, dtaiOn, utcToTai, dayOf, taiToUtc, utcToUts, utsToUtc, Question, DTAI, UTC-to-TAI, TAI-to-UTC, UTC-to-UTS, UTS-to-UTC, Value, ask}
+use Rattle.clock.specs.Known.{lastDay, fullyKnown, taiCutoff, utsCutoff, nanosCutoff, known, knownDate, taiEnd, knownTai}
+use Rattle.clock.specs.Question.{Answer, given, refused, require, firstTai, atInstant, atUtc, dtaiOn, utcToTai, dayOf, taiToUtc, utcToUts, utsToUtc, Question, DTAI, UTC-to-TAI, TAI-to-UTC, UTC-to-UTS, UTS-to-UTC, ask}
 use Rattle.clock.specs.Lists.{Open, Kept}
-use Rattle.clock.proofs.Leaps.{tally-below, ending-below}
-use Rattle.clock.proofs.Tai.{length-least, expires-later}
+use Rattle.clock.proofs.Leaps.{tally-below, ending-below, ending-known}
+use Rattle.clock.proofs.Tai.{length-least, expires-later, ending-last}
 use Rattle.clock.proofs.Uts.{uts-plain}
-use Rattle.clock.proofs.Checks.{Sure, sure-known, known-sure, sure-through}
+use Rattle.clock.proofs.Checks.{Sure, wholeTo, whole-open, whole-near, whole-later, sure-known, known-sure, sure-through}
 use Rattle.clock.proofs.Instant.{Instant, instant-bounds, instant-value, instant-found}
 use Rattle.clock.proofs.Back.{back-plain}
 
@@ -59,15 +60,15 @@ instant-open false v = inr (inl refl)
 
 -- what is known up to one day is known up to a later one
 sure-longer : {last last′ cutoff day t : ℕ} → last ≤ last′ → Sure last cutoff day t → Sure last′ cutoff day t
-sure-longer h (inl l) = inl (omega arith)
+sure-longer h (inl l) = inl (omega (arith, whole-later h))
 sure-longer {last} {last′} h (inr l) =
-    elim (decLt last last′) [ yes q ↦ inl (omega arith) | no q ↦ inr (omega arith, l .1) ]
+    elim (decLt last last′) [ yes q ↦ inl (omega (arith, whole-near last′)) | no q ↦ inr (omega arith, l .1) ]
 
 module _ (L S : Schedule) (longer : Extends L S) (wL : wellFormed L ≡ true) (wS : wellFormed S ≡ true) where
   -- ---- the quantities that agree
 
   last-later : lastDay S ≤ lastDay L
-  last-later = omega (arith, start-le (longer .later), expires-later S wS)
+  last-later = omega (arith, longer .later)
 
   tally-same : (sign : Sign) (day : ℕ) → day ≤ lastDay S → tally sign (leapsOf L) day ≡ tally sign (leapsOf S) day
   tally-same sign day h =
@@ -80,8 +81,20 @@ module _ (L S : Schedule) (longer : Extends L S) (wL : wellFormed L ≡ true) (w
   unfolding tai
   tai-same day t h = rw (tally-same Positive day h, tally-same Negative day h)
 
-  ending-same : (day : ℕ) → day < lastDay S → ending L day ≡ ending S day
-  ending-same day h = sym (ending-below (S .expiry) (day + 1) (leapsOf L) (omega arith)) ∙ ap (λ ls. endingBefore ls (day + 1)) (longer .same)
+  ending-earlier : (day : ℕ) → day < lastDay S → ending L day ≡ ending S day
+  ending-earlier day h = sym (ending-below (S .expiry) (day + 1) (leapsOf L) (omega arith)) ∙ ap (λ ls. endingBefore ls (day + 1)) (longer .same)
+
+  -- where the last day is fully known, neither list has a leap at its end
+  ending-same : (day : ℕ) → day < wholeTo (lastDay S) → ending L day ≡ ending S day
+  ending-same day h =
+      elim (decLt day (lastDay S)) [
+        | yes l ↦ ending-earlier day l
+        | no l ↦
+            let e : day ≡ lastDay S = omega (arith, whole-near (lastDay S)) in
+            by-bool (fullyKnown (lastDay S))
+            (λ k. rw e (ending-known (lastDay S) 0 (leapsOf L) (L .expiry) k (parts L wL .gaps) (parts L wL .end) ∙ sym (ending-last S wS)))
+            (λ k. absurd (omega (arith, whole-open (lastDay S) k)))
+      ]
 
   -- ---- the five questions
 
@@ -104,18 +117,18 @@ module _ (L S : Schedule) (longer : Extends L S) (wL : wellFormed L ≡ true) (w
       let sure = known-sure (lastDay S) cutoff day t e in
       (sure-known (sure-longer last-later sure), f sure))
 
-  later-utc : {A : Type 0} (cutoff day t : ℕ) (v v′ : A) → cutoff ≤ shortDay → (day < lastDay S → v′ ≡ v) → (day ≤ lastDay S → t < cutoff → v′ ≡ v)
+  later-utc : {A : Type 0} (cutoff day t : ℕ) (v v′ : A) → cutoff ≤ shortDay → (day < wholeTo (lastDay S) → v′ ≡ v) → (day ≤ lastDay S → t < cutoff → v′ ≡ v)
       → Later (atUtc S cutoff day t v) (atUtc L cutoff day t v′)
   later-utc cutoff day t v v′ small before on-last =
       later-instant longDay cutoff day t (instant-open (ltb t (dayLength (ending L day))) v′)
-      (⊎-elim (λ (h : day < lastDay S). rw (ending-same day h, before h))
+      (⊎-elim (λ (h : day < wholeTo (lastDay S)). rw (ending-same day h, before h))
       (λ (h : (day ≡ lastDay S) × (t < cutoff)).
       rw (lt-ltb t (dayLength (ending L day)) (omega (arith, length-least (ending L day))), lt-ltb t (dayLength (ending S day)) (omega (arith, length-least (ending S day))))
       (ap given (on-last (omega arith) (h .1)))))
 
   later-tai : (day t : ℕ) → Later (utcToTai S day t) (utcToTai L day t)
   later-tai day t =
-      later-utc taiCutoff day t (tai S day t) (tai L day t) (omega arith) (λ h. tai-same day t (omega arith)) (λ h _. tai-same day t h)
+      later-utc taiCutoff day t (tai S day t) (tai L day t) (omega arith) (λ h. tai-same day t (omega (arith, whole-near (lastDay S)))) (λ h _. tai-same day t h)
 
   later-uts : (day t : ℕ) → Later (utcToUts S day t) (utcToUts L day t)
   later-uts day t =
@@ -125,7 +138,7 @@ module _ (L S : Schedule) (longer : Extends L S) (wL : wellFormed L ≡ true) (w
   later-back : (day u : ℕ) → Later (utsToUtc S day u) (utsToUtc L day u)
   later-back day u =
       later-instant nanosPerDay nanosCutoff day u (given-open (utcOf (ending L day) u))
-      (⊎-elim (λ (h : day < lastDay S). rw (ending-same day h))
+      (⊎-elim (λ (h : day < wholeTo (lastDay S)). rw (ending-same day h))
       (λ (h : (day ≡ lastDay S) × (u < nanosCutoff)). ap given (sym (back-plain (ending L day) u (h .1)) ∙ back-plain (ending S day) u (h .1))))
 
   -- an instant that the shorter list knows has the same TAI under the longer
@@ -146,8 +159,8 @@ module _ (L S : Schedule) (longer : Extends L S) (wL : wellFormed L ≡ true) (w
       later-pass (wellFormed S) (wellFormed L) notWellFormed wS wL
       (later-check (leb firstTai x) before1972 λ p.
       later-known (knownTai S x) (knownTai L x) (given-open (record { day = dayOf L x; micros = x - tai L (dayOf L x) 0 })) λ e.
-      let i = instant-same (instant-found S wS x (leb-true firstTai x p) (ltb-true x (tai S (lastDay S) taiCutoff) e)) in
-      (lt-ltb x (tai L (lastDay L) taiCutoff) (instant-bounds L wL i .1), ap given (instant-value L wL i)))
+      let i = instant-same (instant-found S wS x (leb-true firstTai x p) (ltb-true x (taiEnd S) e)) in
+      (lt-ltb x (taiEnd L) (instant-bounds L wL i .1), ap given (instant-value L wL i)))
 
   later-ask : (q : Question) → Later (ask S q) (ask L q)
   later-ask (DTAI day) = later-dtai day

@@ -1,58 +1,126 @@
 -- The checks of a question: what each says when it is passed, and that they do not look at the value asked for.
 -- Assumes nothing.
-use mathlib.Core.Bool.{Bool, true, false, not, _&&_, _||_, and-eq-true-iff}
+use mathlib.Core.Bool.{Bool, true, false, cond, not, _&&_, _||_, or-true, and-eq-true-iff}
 use mathlib.Core.Logic.{_⊎_, inl, inr}
-use mathlib.Core.Path.{_≡_, refl, sym, _∙_}
-use Prim.Native.Nat.{ℕ, zero, suc, _≤_, _<_}
+use mathlib.Core.Path.{_≡_, refl, sym, ap, _∙_}
+use Prim.Native.Nat.{ℕ, zero, suc, _+_, _≤_, _<_}
+use native.Mathlib.Decide.{decLt}
 use native.Mathlib.Omega.{arith}
 use lib.Dec.{leb, ltb, eqb}
-use borrow.Author.Tests.{ltb-true, leb-true, eqb-true, lt-ltb, le-ltb, le-leb, eq-eqb, ne-eqb, not-true, not-false}
+use borrow.Author.Tests.{ltb-true, leb-true, eqb-true, lt-ltb, le-ltb, le-leb, lt-leb, eq-eqb, ne-eqb, not-true, not-false}
 use Rattle.refusals.specs.Refusals.{before1972, noInstant, notKnown, notWellFormed}
 use Rattle.calendar.specs.Calendar.{firstDay}
 use Rattle.schedule.specs.declared.Schedule.{Schedule}
 use Rattle.schedule.specs.Schedule.{wellFormed}
-use Rattle.clock.specs.Days.{longDay, ending, dayLength}
+use Rattle.schedule.proofs.Cases.{by-bool}
+use Rattle.clock.specs.Days.{longDay, shortDay, ending, dayLength}
 use Rattle.clock.specs.Smoothed.{nanosPerDay}
-use Rattle.clock.specs.Known.{lastDay, nanosCutoff, knownTo, known, knownDate}
-use Rattle.clock.specs.Question.{Answer, given, refused, require, atDate, atInstant, atUtc, atUts}
+use Rattle.clock.specs.Known.{lastDay, fullyKnown, nanosCutoff, knownTo, known, knownDate}
+use Rattle.clock.specs.Question.{Answer, given, refused, require, number, atDate, atInstant, atUtc, atUts}
+use Rattle.clock.specs.Taken.{Within}
 use Rattle.clock.specs.Inner.{told}
-use Rattle.clock.proofs.Tai.{length-most}
+use Rattle.clock.proofs.Tai.{length-least, length-most}
 
 -- ---- the end of knowledge
 
--- a time of a day is known before the last day, and on it below the cut-off
+-- the days before this one are fully known: those before the last, and the last too if it is
+unfoldable pub wholeTo : ℕ → ℕ
+wholeTo last = cond (fullyKnown last) (last + 1) last
+
+pub whole-shut : (last : ℕ) → fullyKnown last ≡ true → wholeTo last ≡ last + 1
+unfolding wholeTo
+whole-shut last k = rw k
+
+pub whole-open : (last : ℕ) → fullyKnown last ≡ false → wholeTo last ≡ last
+unfolding wholeTo
+whole-open last k = rw k
+
+-- the days before the last are fully known, and none after it
+pub whole-near : (last : ℕ) → (last ≤ wholeTo last) × (wholeTo last ≤ last + 1)
+whole-near last =
+    by-bool (fullyKnown last) (λ k. let e = whole-shut last k in (omega arith, omega arith)) (λ k. let e = whole-open last k in (omega arith, omega arith))
+
+-- up to a later day as much is fully known, or more
+pub whole-later : {last last′ : ℕ} → last ≤ last′ → wholeTo last ≤ wholeTo last′
+whole-later {last} {last′} h =
+    elim (decLt last last′) [
+      | yes l ↦ omega (arith, whole-near last, whole-near last′)
+      | no l ↦ let e : last ≡ last′ = omega arith in omega (arith, ap wholeTo e)
+    ]
+
+-- a time of a day is known on a day that is fully known, and on the last day below the cut-off
 abbrev pub Sure : ℕ → ℕ → ℕ → ℕ → Type 0
-Sure last cutoff day t = (day < last) ⊎ ((day ≡ last) × (t < cutoff))
+Sure last cutoff day t = (day < wholeTo last) ⊎ ((day ≡ last) × (t < cutoff))
 
-pub known-before : {last : ℕ} (cutoff : ℕ) {day : ℕ} (t : ℕ) → day < last → knownTo last cutoff day t ≡ true
+-- the test says the same
+known-is : (last cutoff day t : ℕ) → knownTo last cutoff day t ≡ (ltb day (wholeTo last) || (eqb day last && ltb t cutoff))
 unfolding knownTo
-known-before {last} cutoff {day} t h = rw (lt-ltb day last h)
+known-is last cutoff day t =
+    by-bool (fullyKnown last)
+    (λ k. rw (k, whole-shut last k)
+    (elim (decLt day last) [
+      | yes l ↦ rw (lt-ltb day last l, lt-ltb day (last + 1) (omega arith))
+      | no l ↦
+          elim (decLt last day) [
+            | yes a ↦ rw (le-ltb day last (omega arith), le-ltb day (last + 1) (omega arith), ne-eqb day last (λ e. omega arith))
+            | no a ↦ rw (le-ltb day last (omega arith), lt-ltb day (last + 1) (omega arith), eq-eqb day last (omega arith))
+          ]
+    ]))
+    (λ k. rw (k, whole-open last k))
 
-pub known-last : {last : ℕ} (cutoff : ℕ) {day : ℕ} (t : ℕ) → day ≡ last → knownTo last cutoff day t ≡ ltb t cutoff
-unfolding knownTo
-known-last {last} cutoff {day} t h = rw (le-ltb day last (omega arith), eq-eqb day last h)
+pub known-whole : (last cutoff day t : ℕ) → day < wholeTo last → knownTo last cutoff day t ≡ true
+known-whole last cutoff day t h = known-is last cutoff day t ∙ rw (lt-ltb day (wholeTo last) h)
 
-pub known-after : {last : ℕ} (cutoff : ℕ) {day : ℕ} (t : ℕ) → last < day → knownTo last cutoff day t ≡ false
-unfolding knownTo
-known-after {last} cutoff {day} t h = rw (le-ltb day last (omega arith), ne-eqb day last (λ e. omega arith))
+pub known-before : (last cutoff day t : ℕ) → day < last → knownTo last cutoff day t ≡ true
+known-before last cutoff day t h = known-whole last cutoff day t (omega (arith, whole-near last))
+
+pub known-last : (last cutoff day t : ℕ) → day ≡ last → fullyKnown last ≡ false → knownTo last cutoff day t ≡ ltb t cutoff
+known-last last cutoff day t h k = known-is last cutoff day t ∙ rw (le-ltb day (wholeTo last) (omega (arith, whole-open last k)), eq-eqb day last h)
+
+pub known-below : (last cutoff day t : ℕ) → day ≡ last → t < cutoff → knownTo last cutoff day t ≡ true
+known-below last cutoff day t h l = known-is last cutoff day t ∙ rw (eq-eqb day last h, lt-ltb t cutoff l) (or-true (ltb day (wholeTo last)))
+
+-- on the last day from the cut-off on: known where that day is fully known
+pub known-from : (last cutoff day t : ℕ) → day ≡ last → cutoff ≤ t → knownTo last cutoff day t ≡ fullyKnown last
+known-from last cutoff day t h l =
+    by-bool (fullyKnown last) (λ k. known-whole last cutoff day t (omega (arith, whole-shut last k)) ∙ sym k)
+    (λ k. known-last last cutoff day t h k ∙ le-ltb t cutoff l ∙ sym k)
+
+pub known-after : (last cutoff day t : ℕ) → last < day → knownTo last cutoff day t ≡ false
+known-after last cutoff day t h = known-is last cutoff day t ∙ rw (le-ltb day (wholeTo last) (omega (arith, whole-near last)), ne-eqb day last (λ e. omega arith))
 
 pub sure-known : {last cutoff day t : ℕ} → Sure last cutoff day t → knownTo last cutoff day t ≡ true
-sure-known {cutoff = cutoff} {t = t} (inl h) = known-before cutoff t h
-sure-known {cutoff = cutoff} {t = t} (inr h) = known-last cutoff t (h .0) ∙ lt-ltb t cutoff (h .1)
+sure-known {last} {cutoff} {day} {t} (inl h) = known-whole last cutoff day t h
+sure-known {last} {cutoff} {day} {t} (inr h) = known-below last cutoff day t (h .0) (h .1)
 
 pub known-sure : (last cutoff day t : ℕ) → knownTo last cutoff day t ≡ true → Sure last cutoff day t
-unfolding knownTo
-known-sure last cutoff day t = go (ltb day last) refl
+known-sure last cutoff day t k = go (ltb day (wholeTo last)) refl (sym (known-is last cutoff day t) ∙ k)
   where
-    go : (b : Bool) → ltb day last ≡ b → (b || (eqb day last && ltb t cutoff)) ≡ true → Sure last cutoff day t
-    go true e h = inl (ltb-true day last e)
+    go : (b : Bool) → ltb day (wholeTo last) ≡ b → (b || (eqb day last && ltb t cutoff)) ≡ true → Sure last cutoff day t
+    go true e h = inl (ltb-true day (wholeTo last) e)
     go false e h =
         let p = and-eq-true-iff (eqb day last) (ltb t cutoff) .0 h in
         inr (eqb-true day last (p .0), ltb-true t cutoff (p .1))
 
 pub sure-through : {last cutoff day t : ℕ} → Sure last cutoff day t → day ≤ last
-sure-through (inl h) = omega arith
+sure-through {last} (inl h) = omega (arith, whole-near last)
 sure-through (inr h) = omega arith
+
+-- in the paper's words
+pub sure-within : {last cutoff day t : ℕ} → Sure last cutoff day t → Within last cutoff day t
+sure-within {last} {cutoff} {day} {t} (inl h) =
+    elim (decLt day last) [
+      | yes l ↦ inl l
+      | no l ↦
+          let e : day ≡ last = omega (arith, whole-near last) in
+          by-bool (fullyKnown last) (λ k. inr (e, inl k)) (λ k. absurd (omega (arith, whole-open last k)))
+    ]
+sure-within (inr h) = inr (h .0, inr (h .1))
+
+pub within-sure : {last cutoff day t : ℕ} → Within last cutoff day t → Sure last cutoff day t
+within-sure {last} (inl h) = inl (omega (arith, whole-near last))
+within-sure {last} (inr (e, inl f)) = inl (omega (arith, whole-shut last f))
+within-sure (inr (e, inr l)) = inr (e, l)
 
 -- ---- one check
 
@@ -142,6 +210,26 @@ utc-answered s cutoff day t v w from sure below =
 pub on-uts : {A : Type 0} (s : Schedule) (day u : ℕ) (v x : A) → atUts s day u v ≡ given x → OnInstant s nanosPerDay nanosCutoff day u × (v ≡ x)
 on-uts s day u v x h = let p = on-instant s nanosPerDay nanosCutoff day u h in (p .0, given-is (p .1))
 
+-- below the cut-off an instant is known on every known date, and the checks are those of the date
+pub known-on-date : (last cutoff day t : ℕ) → t < cutoff → knownTo last cutoff day t ≡ leb day last
+known-on-date last cutoff day t h =
+    elim (decLt day last) [
+      | yes l ↦ known-before last cutoff day t l ∙ sym (le-leb day last (omega arith))
+      | no l ↦
+          elim (decLt last day) [
+            | yes a ↦ known-after last cutoff day t a ∙ sym (lt-leb day last a)
+            | no a ↦ known-below last cutoff day t (omega arith) h ∙ sym (le-leb day last (omega arith))
+          ]
+    ]
+
+pub early-as-date : (s : Schedule) (limit cutoff day t : ℕ) → t < limit → t < cutoff → _≡_ {A = Answer (Unit {0})} (atInstant s limit cutoff day t (given tt)) (atDate s day tt)
+early-as-date s limit cutoff day t h g = rw (lt-ltb t limit h, known-on-date (lastDay s) cutoff day t g)
+
+pub early-utc : (s : Schedule) (cutoff day t : ℕ) → cutoff ≤ shortDay → t < cutoff → _≡_ {A = Answer (Unit {0})} (atUtc s cutoff day t tt) (atDate s day tt)
+early-utc s cutoff day t h g =
+    ap (λ a. atInstant s longDay cutoff day t a) (pass noInstant (lt-ltb t (dayLength (ending s day)) (omega (arith, length-least (ending s day)))))
+    ∙ early-as-date s longDay cutoff day t (omega arith) g
+
 -- ---- the checks do not look at what comes after them: what the number of a chain says of every question that it stands before
 
 -- two answers to the same checks: both pass, and the second goes on with b; or both are refused alike
@@ -190,3 +278,22 @@ then-refused (suc n) (both-refused m) e f = cc
 pub told-refused : (n : ℕ) → (n ≡ 0 → ⊥) → refused n ≡ told n
 told-refused zero f = absurd (f refl)
 told-refused (suc n) f = refl
+
+-- ---- the numbers
+
+through : {A : Type 0} (b : Bool) (n : ℕ) (a : Answer A) → n ≤ 11 → number a ≤ 11 → number (require b n a) ≤ 11
+through true n a h g = g
+through false n a h g = h
+
+-- an instant of UTC is refused with at most 11
+pub utc-number : {A : Type 0} (s : Schedule) (cutoff day t : ℕ) (v : A) → number (atUtc s cutoff day t v) ≤ 11
+utc-number {A} s cutoff day t v =
+    let length-left : Answer A = require (ltb t (dayLength (ending s day))) noInstant (given v) in
+    let known-left : Answer A = require (known s cutoff day t) notKnown length-left in
+    let long-left : Answer A = require (ltb t longDay) noInstant known-left in
+    let early-left : Answer A = require (leb firstDay day) before1972 long-left in
+    through (wellFormed s) notWellFormed early-left (omega arith)
+    (through (leb firstDay day) before1972 long-left (omega arith)
+    (through (ltb t longDay) noInstant known-left (omega arith)
+    (through (known s cutoff day t) notKnown length-left (omega arith)
+    (through (ltb t (dayLength (ending s day))) noInstant (given v) (omega arith) (omega arith)))))

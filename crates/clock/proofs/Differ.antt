@@ -23,7 +23,7 @@ use Rattle.schedule.proofs.Gaps.{fits-lt, first, later, before-end, parts}
 use Rattle.schedule.proofs.Expired.{is-expired, not-expired}
 use Rattle.schedule.proofs.Extension.{below-none}
 use Rattle.clock.specs.Days.{firstDtai, count, tally, dtai}
-use Rattle.clock.specs.Known.{expiryDay, lastDay}
+use Rattle.clock.specs.Known.{lastDay}
 use Rattle.clock.specs.Question.{given, DTAI, ask}
 use Rattle.clock.specs.Lists.{Agreed, Parted}
 use Rattle.clock.proofs.Leaps.{not-yet, tally-none}
@@ -57,22 +57,22 @@ tally-before sign from l ls e day h i = omega (arith, not-yet sign l day i, tall
 record Apart (from : ℕ) (xs ys : List Leap) (e f : ℕ) : Type 0 where
   day : ℕ
   after : monthStart from ≤ day
-  before : day < monthStart e
-  before′ : day < monthStart f
+  before : day < e
+  before′ : day < f
   apart : tally Positive xs day + tally Negative ys day ≢ tally Positive ys day + tally Negative xs day
 
 swap : {from : ℕ} {xs ys : List Leap} {e f : ℕ} → Apart from xs ys e f → Apart from ys xs f e
 swap r = record { day = r .day; after = r .after; before = r .before′; before′ = r .before; apart = λ z. r .apart (sym z) }
 
 -- the first list has a leap on a day on which the other has none yet
-alone : (from : ℕ) (l : Leap) (ls ys : List Leap) (e f : ℕ) → gapsFit from (l ∷ ls) e ≡ true → l .month < f
+alone : (from : ℕ) (l : Leap) (ls ys : List Leap) (e f : ℕ) → gapsFit from (l ∷ ls) e ≡ true → monthStart (l .month) < f
     → ((sign : Sign) → tally sign ys (monthStart (l .month)) ≡ 0) → Apart from (l ∷ ls) ys e f
 alone from l ls ys e f h i none =
     record {
       day = monthStart (l .month);
       after = omega (arith, start-lt (fits-lt from (l .month) (first from l ls e h)));
-      before = start-lt (before-end ls (l .month) e (later from l ls e h));
-      before′ = start-lt i;
+      before = before-end ls (l .month) e (later from l ls e h);
+      before′ = i;
       apart = ones (l .sign) (tally-now Positive from l ls e h) (tally-now Negative from l ls e h);
     }
   where
@@ -122,8 +122,8 @@ meet from a b xs ys e f g h z o = go (a .sign) (b .sign) refl refl
         inr (inr (record {
           day = d;
           after = omega (arith, start-lt (fits-lt from (a .month) (first from a xs e g)));
-          before = start-lt (before-end xs (a .month) e (later from a xs e g));
-          before′ = omega (arith, start-lt (before-end ys (b .month) f (later from b ys f h)), ap monthStart z);
+          before = before-end xs (a .month) e (later from a xs e g);
+          before′ = omega (arith, before-end ys (b .month) f (later from b ys f h), ap monthStart z);
           apart = n;
         }))
 
@@ -148,14 +148,14 @@ unfolding Outcome below
 compare from [] [] e f g h = elim (decLt e f) [ yes l ↦ inl (refl, omega arith) | no l ↦ inr (inl (refl, omega arith)) ]
 compare from [] (b ∷ ys) e f g h =
     let z = later from b ys f h in
-    elim (decLt (b .month) e) [
+    elim (decLt (monthStart (b .month)) e) [
       | yes l ↦ inr (inr (swap (alone from b ys [] f e h l (λ sign. refl))))
       | no l ↦
           inl (rw (is-expired e (b .month) (omega arith)) (below-none e (b .month) ys f z (omega arith)), omega (arith, before-end ys (b .month) f z))
     ]
 compare from (a ∷ xs) [] e f g h =
     let z = later from a xs e g in
-    elim (decLt (a .month) f) [
+    elim (decLt (monthStart (a .month)) f) [
       | yes l ↦ inr (inr (alone from a xs [] e f g l (λ sign. refl)))
       | no l ↦
           inr (inl (rw (is-expired f (a .month) (omega arith)) (below-none f (a .month) xs e z (omega arith)), omega (arith, before-end xs (a .month) e z)))
@@ -165,12 +165,12 @@ compare from (a ∷ xs) (b ∷ ys) e f g h =
     let more′ = later from b ys f h in
     elim (decLt (a .month) (b .month)) [
       | yes l ↦
-          inr (inr (alone from a xs (b ∷ ys) e f g (omega (arith, before-end ys (b .month) f more′))
+          inr (inr (alone from a xs (b ∷ ys) e f g (omega (arith, start-lt l, before-end ys (b .month) f more′))
           (λ sign. tally-before sign from b ys f (monthStart (a .month)) h (start-lt l))))
       | no l ↦
           elim (decLt (b .month) (a .month)) [
             | yes m ↦
-                inr (inr (swap (alone from b ys (a ∷ xs) f e h (omega (arith, before-end xs (a .month) e more))
+                inr (inr (swap (alone from b ys (a ∷ xs) f e h (omega (arith, start-lt m, before-end xs (a .month) e more))
                 (λ sign. tally-before sign from a xs e (monthStart (b .month)) g (start-lt m)))))
             | no m ↦ let z : b .month ≡ a .month = omega arith in meet from a b xs ys e f g h z (compare (a .month) xs ys e f more (rw z at more′))
           ]
@@ -178,7 +178,7 @@ compare from (a ∷ xs) (b ∷ ys) e f g h =
 
 -- ---- two schedules
 
-dtai-given : (s : Schedule) (day : ℕ) → wellFormed s ≡ true → firstDay ≤ day → day < expiryDay s → ask s (DTAI day) ≡ given (dtai s day)
+dtai-given : (s : Schedule) (day : ℕ) → wellFormed s ≡ true → firstDay ≤ day → day < s .expiry → ask s (DTAI day) ≡ given (dtai s day)
 dtai-given s day w h i = pass notWellFormed w ∙ pass before1972 (le-leb firstDay day h) ∙ pass notKnown (le-leb day (lastDay s) (omega arith))
 
 extends-or-parted : (s s′ : Schedule) → wellFormed s ≡ true → wellFormed s′ ≡ true → Extends s′ s ⊎ (Extends s s′ ⊎ Parted s s′)

@@ -1,6 +1,6 @@
 -- TAI to UTC and UTC to TAI are inverse to each other.
 -- Assumes nothing.
-use mathlib.Core.Bool.{true}
+use mathlib.Core.Bool.{true, false}
 use mathlib.Core.Logic.{⊎-elim, _↔_}
 use mathlib.Core.Path.{_≡_, sym, ap, _∙_, subst}
 use Prim.Native.Nat.{ℕ, _+_, _-_, _≤_, _<_}
@@ -13,12 +13,13 @@ use Rattle.calendar.specs.Calendar.{firstDay}
 use Rattle.calendar.proofs.Greatest.{Greatest, greatest-found, greatest-is}
 use Rattle.schedule.specs.declared.Schedule.{Schedule}
 use Rattle.schedule.specs.Schedule.{wellFormed}
-use Rattle.clock.specs.Days.{ending, dayLength, tai}
-use Rattle.clock.specs.Known.{lastDay, taiCutoff, knownTo, knownTai}
+use Rattle.schedule.proofs.Cases.{by-bool}
+use Rattle.clock.specs.Days.{microsPerDay, ending, dayLength, tai}
+use Rattle.clock.specs.Known.{lastDay, fullyKnown, taiCutoff, knownTo, taiEnd, knownTai}
 use Rattle.clock.specs.Question.{given, require, Utc, firstTai, utcToTai, dayOf, taiToUtc}
 use Rattle.clock.specs.Inner.{mostDtai, nearDay, onDay}
-use Rattle.clock.proofs.Tai.{length-least, expires-later, tai-low, tai-high, tai-in-day, tai-first, tai-next, tai-order, tai-rises}
-use Rattle.clock.proofs.Checks.{Sure, known-before, known-last, known-sure, sure-through, pass, on-utc, utc-answered, required, given-is}
+use Rattle.clock.proofs.Tai.{length-least, expires-later, ending-last, tai-low, tai-high, tai-in-day, tai-first, tai-next, tai-order, tai-rises}
+use Rattle.clock.proofs.Checks.{Sure, wholeTo, whole-open, whole-shut, whole-near, known-whole, known-before, known-last, known-after, known-sure, sure-through, pass, stop, on-utc, utc-answered, required, given-is}
 
 -- x is the TAI of an instant that the schedule knows
 pub record Instant (s : Schedule) (x day t : ℕ) : Type 0 where
@@ -31,19 +32,41 @@ module _ (s : Schedule) (w : wellFormed s ≡ true) where
   pub last-from : firstDay ≤ lastDay s
   last-from = omega (arith, expires-later s w)
 
-  -- the TAI from which on nothing is known
-  tai-end : tai s (lastDay s) taiCutoff ≡ tai s (lastDay s) 0 + taiCutoff
-  tai-end = tai-in-day s w (lastDay s) taiCutoff last-from
+  -- the TAI from which on nothing is known, where the last day is not fully known, and where it is
+  end-open : fullyKnown (lastDay s) ≡ false → taiEnd s ≡ tai s (lastDay s) 0 + taiCutoff
+  unfolding taiEnd
+  end-open m = rw m (tai-in-day s w (lastDay s) taiCutoff last-from)
+
+  end-shut : fullyKnown (lastDay s) ≡ true → taiEnd s ≡ tai s (lastDay s) 0 + microsPerDay
+  unfolding taiEnd
+  end-shut m = rw m (tai-in-day s w (lastDay s) microsPerDay last-from)
+
+  -- in either case after the last day's first 86,399 s, which are no more than the whole day
+  end-from : (tai s (lastDay s) 0 + taiCutoff ≤ taiEnd s) × (dayLength (ending s (lastDay s)) ≡ microsPerDay)
+  end-from =
+      (by-bool (fullyKnown (lastDay s)) (λ k. omega (arith, end-shut k)) (λ k. omega (arith, end-open k)), ap dayLength (ending-last s w))
 
   -- ---- from the instant to its TAI and back
 
-  pub instant-bounds : {x day t : ℕ} → Instant s x day t → (firstTai ≤ x) × (x < tai s (lastDay s) taiCutoff)
+  on-whole : {x day t : ℕ} → Instant s x day t → day < wholeTo (lastDay s) → x < taiEnd s
+  on-whole {x} {day} {t} i q =
+      let is = i .is in
+      elim (decLt day (lastDay s)) [
+        | yes l ↦ omega (arith, i .below, end-from .0, tai-rises s w day (lastDay s) (i .from) l)
+        | no l ↦
+            let e : day ≡ lastDay s = omega (arith, whole-near (lastDay s)) in
+            by-bool (fullyKnown (lastDay s))
+            (λ k. omega (arith, i .below, end-shut k, end-from .1, ap (λ d. tai s d 0) e, ap (λ d. dayLength (ending s d)) e))
+            (λ k. absurd (omega (arith, whole-open (lastDay s) k)))
+      ]
+
+  pub instant-bounds : {x day t : ℕ} → Instant s x day t → (firstTai ≤ x) × (x < taiEnd s)
   instant-bounds {x} {day} {t} i =
       let first = tai-order s w firstDay day (omega arith) (i .from) in
       let is = i .is in (
         omega (arith, tai-first s w),
-        ⊎-elim (λ (q : day < lastDay s). omega (arith, i .below, tai-end, tai-rises s w day (lastDay s) (i .from) q))
-            (λ (q : (day ≡ lastDay s) × (t < taiCutoff)). omega (arith, tai-end, ap (λ d. tai s d 0) (q .0)))
+        ⊎-elim (λ (q : day < wholeTo (lastDay s)). on-whole i q)
+            (λ (q : (day ≡ lastDay s) × (t < taiCutoff)). omega (arith, end-from .0, ap (λ d. tai s d 0) (q .0)))
             (i .sure),
       )
 
@@ -83,45 +106,67 @@ module _ (s : Schedule) (w : wellFormed s ≡ true) where
     before-next : (day : ℕ) → dayOf s x < day → day ≤ lastDay s → x < tai s day 0
     before-next day a b = leb-false (tai s day 0) x (day-greatest .above day a b)
 
-    -- on the last day, x is known where its microsecond is
-    on-last : (day : ℕ) → lastDay s ≡ day → tai s day 0 ≤ x → ltb (x - tai s day 0) taiCutoff ≡ ltb x (tai s (lastDay s) taiCutoff)
-    on-last day e b =
-        let end : tai s (lastDay s) taiCutoff ≡ tai s day 0 + taiCutoff = omega (arith, tai-end, ap (λ d. tai s d 0) e) in
+    -- on the last day, where it is not fully known, x is known where its microsecond is
+    on-last : fullyKnown (lastDay s) ≡ false → (day : ℕ) → lastDay s ≡ day → tai s day 0 ≤ x → ltb (x - tai s day 0) taiCutoff ≡ ltb x (taiEnd s)
+    on-last m day e b =
+        let end : taiEnd s ≡ tai s day 0 + taiCutoff = omega (arith, end-open m, ap (λ d. tai s d 0) e) in
         elim (decLt x (tai s day 0 + taiCutoff)) [
-          | yes l ↦ rw (lt-ltb (x - tai s day 0) taiCutoff (omega arith), lt-ltb x (tai s (lastDay s) taiCutoff) (omega arith))
-          | no l ↦ rw (le-ltb (x - tai s day 0) taiCutoff (omega arith), le-ltb x (tai s (lastDay s) taiCutoff) (omega arith))
+          | yes l ↦ rw (lt-ltb (x - tai s day 0) taiCutoff (omega arith), lt-ltb x (taiEnd s) (omega arith))
+          | no l ↦ rw (le-ltb (x - tai s day 0) taiCutoff (omega arith), le-ltb x (taiEnd s) (omega arith))
         ]
 
-    -- whether x is known is whether its microsecond of its day is
-    known-is : knownTo (lastDay s) taiCutoff (dayOf s x) (x - tai s (dayOf s x) 0) ≡ knownTai s x
-    known-is =
+    -- where x lies within its day, whether it is known is whether its microsecond of the day is
+    known-is : x < tai s (dayOf s x) 0 + dayLength (ending s (dayOf s x)) → knownTo (lastDay s) taiCutoff (dayOf s x) (x - tai s (dayOf s x) 0) ≡ knownTai s x
+    known-is inside =
         elim (decLt (dayOf s x) (lastDay s)) [
-          | yes l ↦ known-before taiCutoff _ l ∙ sym (lt-ltb x (tai s (lastDay s) taiCutoff) (omega (arith, tai-end, before-next (lastDay s) l (omega arith))))
+          | yes l ↦
+              known-before (lastDay s) taiCutoff (dayOf s x) _ l
+              ∙ sym (lt-ltb x (taiEnd s) (omega (arith, end-from .0, before-next (lastDay s) l (omega arith))))
           | no l ↦
               let e : dayOf s x ≡ lastDay s = omega (arith, day-greatest .within) in
-              known-last taiCutoff _ e ∙ on-last (dayOf s x) (sym e) day-begun
+              by-bool (fullyKnown (lastDay s))
+              (λ k.
+              known-whole (lastDay s) taiCutoff (dayOf s x) _ (omega (arith, whole-shut (lastDay s) k))
+              ∙ sym (lt-ltb x (taiEnd s) (omega (arith, end-shut k, end-from .1, ap (λ d. tai s d 0) e, ap (λ d. dayLength (ending s d)) e))))
+              (λ k. known-last (lastDay s) taiCutoff (dayOf s x) _ e k ∙ on-last k (dayOf s x) (sym e) day-begun)
         ]
 
-    pub instant-found : x < tai s (lastDay s) taiCutoff → Instant s x (dayOf s x) (x - tai s (dayOf s x) 0)
+    -- what is known lies within its day
+    known-inside : x < taiEnd s → x < tai s (dayOf s x) 0 + dayLength (ending s (dayOf s x))
+    known-inside i =
+        elim (decLt (dayOf s x) (lastDay s)) [
+          | yes l ↦ omega (arith, tai-next s w (dayOf s x) day-from, before-next (dayOf s x + 1) (omega arith) (omega arith))
+          | no l ↦
+              let e : dayOf s x ≡ lastDay s = omega (arith, day-greatest .within) in
+              let same : tai s (dayOf s x) 0 + dayLength (ending s (dayOf s x)) ≡ tai s (lastDay s) 0 + microsPerDay =
+              omega (arith, end-from .1, ap (λ d. tai s d 0) e, ap (λ d. dayLength (ending s d)) e) in
+              by-bool (fullyKnown (lastDay s)) (λ k. omega (arith, end-shut k)) (λ k. omega (arith, end-open k))
+        ]
+
+    pub instant-found : x < taiEnd s → Instant s x (dayOf s x) (x - tai s (dayOf s x) 0)
     instant-found i =
         let begun = day-begun in
-        let sure = known-sure (lastDay s) taiCutoff (dayOf s x) (x - tai s (dayOf s x) 0) (known-is ∙ lt-ltb x (tai s (lastDay s) taiCutoff) i) in
+        let inside = known-inside i in
         record {
           from = day-from;
           is = omega arith;
-          below =
-              ⊎-elim (λ (q : dayOf s x < lastDay s). omega (arith, tai-next s w (dayOf s x) day-from, before-next (dayOf s x + 1) (omega arith) (omega arith)))
-              (λ (q : (dayOf s x ≡ lastDay s) × (x - tai s (dayOf s x) 0 < taiCutoff)). omega (arith, length-least (ending s (dayOf s x))))
-              sure;
-          sure = sure;
+          below = omega arith;
+          sure = known-sure (lastDay s) taiCutoff (dayOf s x) (x - tai s (dayOf s x) 0) (known-is inside ∙ lt-ltb x (taiEnd s) i);
         }
 
     -- the answer, by the day of x and its start
-    pub utc-answer : (day start : ℕ) → day ≡ dayOf s x → start ≡ tai s day 0 → onDay day (x - start) (lastDay s) ≡ taiToUtc s x
-    utc-answer day start e b =
+    pub utc-answer : (day start : ℕ) → day ≡ dayOf s x → start ≡ tai s day 0 → x < tai s day 0 + dayLength (ending s day) → onDay day (x - start) (lastDay s) ≡ taiToUtc s x
+    utc-answer day start e b inside =
         let z : start ≡ tai s (dayOf s x) 0 = b ∙ ap (λ d. tai s d 0) e in
-        rw (e, z) (ap (λ t. require t notKnown (given (record { day = dayOf s x; micros = x - tai s (dayOf s x) 0 }))) known-is)
+        rw (e, z) (ap (λ t. require t notKnown (given (record { day = dayOf s x; micros = x - tai s (dayOf s x) 0 }))) (known-is (rw e at inside)))
         ∙ sym (pass notWellFormed w ∙ pass before1972 (le-leb firstTai x h))
+
+    -- past the last day
+    pub utc-past : (t : ℕ) → tai s (lastDay s) 0 + dayLength (ending s (lastDay s)) ≤ x → onDay (lastDay s + 1) t (lastDay s) ≡ taiToUtc s x
+    utc-past t past =
+        let late : taiEnd s ≤ x = by-bool (fullyKnown (lastDay s)) (λ k. omega (arith, end-shut k, end-from .1)) (λ k. omega (arith, end-open k, end-from .1)) in
+        stop _ notKnown (known-after (lastDay s) taiCutoff (lastDay s + 1) t (omega arith))
+        ∙ sym (pass notWellFormed w ∙ pass before1972 (le-leb firstTai x h) ∙ stop _ notKnown (le-ltb x (taiEnd s) late))
 
     -- ---- the day near x has begun by x, and x lies on it or on the next
     module _ (near : ℕ) (n : near ≡ nearDay x (lastDay s)) where
@@ -147,6 +192,12 @@ module _ (s : Schedule) (w : wellFormed s ≡ true) where
           let from = near-from in
           is-day (near + 1) (omega arith) (omega (arith, tai-next s w near near-from)) (λ j a b. omega (arith, tai-low s w j (omega arith)))
 
+      -- on the next day it lies early
+      pub near-inside : near < lastDay s → x < tai s (near + 1) 0 + dayLength (ending s (near + 1))
+      near-inside l =
+          let from = near-from in
+          omega (arith, tai-low s w (near + 1) (omega arith), length-least (ending s (near + 1)))
+
   -- ---- the two questions
 
   tai-given : {x day t : ℕ} → Instant s x day t → utcToTai s day t ≡ given x
@@ -156,7 +207,7 @@ module _ (s : Schedule) (w : wellFormed s ≡ true) where
   utc-given : {x day t : ℕ} → Instant s x day t → taiToUtc s x ≡ given (record { day = day; micros = t })
   utc-given {x} i =
       let b = instant-bounds i in
-      rw (w, le-leb firstTai x (b .0), lt-ltb x (tai s (lastDay s) taiCutoff) (b .1)) (ap given (instant-value i))
+      rw (w, le-leb firstTai x (b .0), lt-ltb x (taiEnd s) (b .1)) (ap given (instant-value i))
 
 tai-instant : (s : Schedule) (x day t : ℕ) → utcToTai s day t ≡ given x → (wellFormed s ≡ true) × Instant s x day t
 tai-instant s x day t h =
@@ -168,7 +219,7 @@ utc-instant s x u h =
     let a = required (wellFormed s) notWellFormed h in
     let b = required (leb firstTai x) before1972 (a .1) in
     let c = required (knownTai s x) notKnown (b .1) in
-    let i = instant-found s (a .0) x (leb-true firstTai x (b .0)) (ltb-true x (tai s (lastDay s) taiCutoff) (c .0)) in
+    let i = instant-found s (a .0) x (leb-true firstTai x (b .0)) (ltb-true x (taiEnd s) (c .0)) in
     (a .0, subst (λ (v : Utc). Instant s x (v .day) (v .micros)) (given-is (c .1)) i)
 
 -- TAI to UTC gives an instant exactly when UTC to TAI gives that instant's TAI

@@ -7,7 +7,7 @@ use Prim.Native.Nat.{ℕ, _-_, _≤_, _<_}
 use native.Mathlib.Omega.{arith}
 use lib.ListN.{length, getD}
 use lib.Seq.{getD-take}
-use Rattle.calendar.specs.Calendar.{lastMonth, monthStart}
+use Rattle.calendar.specs.Calendar.{lastMonth, endDay}
 use Rattle.schedule.specs.Schedule.{maxLeaps, noLeap, leapsOf, wellFormed}
 use Rattle.schedule.specs.WordLayout.{monthWord, countWord, expiryWord, leapAt, leapsAt, laidOut, meant}
 use Rattle.schedule.proofs.Gaps.{parts}
@@ -19,7 +19,7 @@ pub full : (words : List ℕ) → length (leapsAt words maxLeaps) ≡ 256
 full words = leaps-length words 256
 
 -- the last day by the expiry word is that of the schedule meant
-pub last-meant : (words : List ℕ) → wellFormed (meant words) ≡ true → (last : ℕ) → (expiryWord words ≤ lastMonth → last ≡ monthStart (expiryWord words) - 1) → last ≡ lastDay (meant words)
+pub last-meant : (words : List ℕ) → wellFormed (meant words) ≡ true → (last : ℕ) → (expiryWord words ≤ endDay → last ≡ expiryWord words - 1) → last ≡ lastDay (meant words)
 last-meant words w last e =
     let is = layout-meant words w .0 in
     rw is (e (parts (laidOut words) (rw is at w) .end))

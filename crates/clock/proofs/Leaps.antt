@@ -7,47 +7,74 @@ use Prim.Native.Nat.{ℕ, _+_, _≤_, _<_}
 use native.Mathlib.Decide.{decLt}
 use native.Mathlib.Omega.{arith}
 use lib.Dec.{leb, eqb}
-use borrow.Author.Tests.{eqb-true, eqb-false, le-leb, lt-leb, ne-eqb}
-use Rattle.calendar.specs.Calendar.{monthStart}
-use Rattle.calendar.proofs.Laws.{start-lt, start-le}
+use borrow.Author.Tests.{eqb-true, eqb-false, le-leb, lt-leb, ne-eqb, not-true}
+use Rattle.calendar.specs.Calendar.{monthStart, startsMonth}
+use Rattle.calendar.proofs.Laws.{start-lt, no-start}
 use Rattle.schedule.specs.declared.Sign.{Sign}
 use Rattle.schedule.specs.declared.Sign.the-variants.{Positive, Negative}
 use Rattle.schedule.specs.declared.Leap.{Leap}
-use Rattle.schedule.specs.Schedule.{isExpired, gapsFit}
+use Rattle.schedule.specs.Schedule.{endDay, isExpired, gapsFit}
 use Rattle.schedule.specs.Extends.{sameSign, below}
-use Rattle.schedule.proofs.Gaps.{fits-lt, first, later}
+use Rattle.schedule.proofs.Gaps.{fits-lt, first, later, before-end}
+use Rattle.schedule.proofs.WordLayout.{within}
 use Rattle.schedule.proofs.Expired.{expired-from}
 use Rattle.clock.specs.declared.days.Ending.{Ending}
 use Rattle.clock.specs.declared.days.Ending.the-variants.{Ordinary, Inserted, Deleted}
+use Rattle.clock.specs.Known.{fullyKnown}
 use Rattle.clock.specs.Days.{count, tally, endingOf, endingBefore}
 
 -- a leap that takes effect after the day is not counted
 pub not-yet : (sign : Sign) (l : Leap) (day : ℕ) → day < monthStart (l .month) → count (sameSign sign (l .sign) && leb (monthStart (l .month)) day) ≡ 0
 not-yet sign l day h = rw (lt-leb (monthStart (l .month)) day h, and-false (sameSign sign (l .sign)))
 
--- ---- the leaps from a month on change nothing before it
+-- ---- the leaps from an expiry on change nothing before it
 
-pub tally-below : (sign : Sign) (month day : ℕ) (ls : List Leap) → day < monthStart month → tally sign (below month ls) day ≡ tally sign ls day
+pub tally-below : (sign : Sign) (expiry day : ℕ) (ls : List Leap) → day < expiry → tally sign (below expiry ls) day ≡ tally sign ls day
 unfolding below
-tally-below sign month day [] h = refl
-tally-below sign month day (l ∷ ls) h = go (isExpired month (l .month)) refl (tally-below sign month day ls h)
+tally-below sign expiry day [] h = refl
+tally-below sign expiry day (l ∷ ls) h = go (isExpired expiry (l .month)) refl (tally-below sign expiry day ls h)
   where
-    go : (b : Bool) → isExpired month (l .month) ≡ b → tally sign (below month ls) day ≡ tally sign ls day
-        → tally sign (cond b (below month ls) (l ∷ below month ls)) day ≡ tally sign (l ∷ ls) day
-    go true p ih = omega (arith, not-yet sign l day (omega (arith, start-le (expired-from month (l .month) p))))
+    go : (b : Bool) → isExpired expiry (l .month) ≡ b → tally sign (below expiry ls) day ≡ tally sign ls day
+        → tally sign (cond b (below expiry ls) (l ∷ below expiry ls)) day ≡ tally sign (l ∷ ls) day
+    go true p ih = omega (arith, not-yet sign l day (omega (arith, expired-from expiry (l .month) p)))
     go false p ih = omega arith
 
-pub ending-below : (month next : ℕ) (ls : List Leap) → next < monthStart month → endingBefore (below month ls) next ≡ endingBefore ls next
+pub ending-below : (expiry next : ℕ) (ls : List Leap) → next < expiry → endingBefore (below expiry ls) next ≡ endingBefore ls next
 unfolding below
-ending-below month next [] h = refl
-ending-below month next (l ∷ ls) h = go (isExpired month (l .month)) refl (ending-below month next ls h)
+ending-below expiry next [] h = refl
+ending-below expiry next (l ∷ ls) h = go (isExpired expiry (l .month)) refl (ending-below expiry next ls h)
   where
-    go : (b : Bool) → isExpired month (l .month) ≡ b → endingBefore (below month ls) next ≡ endingBefore ls next
-        → endingBefore (cond b (below month ls) (l ∷ below month ls)) next ≡ endingBefore (l ∷ ls) next
+    go : (b : Bool) → isExpired expiry (l .month) ≡ b → endingBefore (below expiry ls) next ≡ endingBefore ls next
+        → endingBefore (cond b (below expiry ls) (l ∷ below expiry ls)) next ≡ endingBefore (l ∷ ls) next
     go true p ih =
-        let late = start-le (expired-from month (l .month) p) in
+        let late = expired-from expiry (l .month) p in
         rw (ne-eqb (monthStart (l .month)) next (λ q. omega arith)) ih
     go false p ih = rw ih
+
+-- a list has no leap on its expiry day
+pub ending-none : (from : ℕ) (ls : List Leap) (expiry : ℕ) → gapsFit from ls expiry ≡ true → endingBefore ls expiry ≡ Ordinary
+ending-none from [] expiry h = refl
+ending-none from (l ∷ ls) expiry h =
+    let rest = later from l ls expiry h in
+    rw (ne-eqb (monthStart (l .month)) expiry (λ q. omega (arith, before-end ls (l .month) expiry rest))) (ending-none (l .month) ls expiry rest)
+
+-- and none on a day that isn't the first of a month
+pub ending-within : (day from : ℕ) (ls : List Leap) (expiry : ℕ) → startsMonth day ≡ false → gapsFit from ls expiry ≡ true → expiry ≤ endDay
+    → endingBefore ls day ≡ Ordinary
+ending-within day from [] expiry m h i = refl
+ending-within day from (l ∷ ls) expiry m h i =
+    let rest = later from l ls expiry h in
+    let small : l .month ≤ 2400 = within (l .month) (omega (arith, before-end ls (l .month) expiry rest)) in
+    rw (ne-eqb (monthStart (l .month)) day (no-start m (l .month) small)) (ending-within day (l .month) ls expiry m rest i)
+
+-- so none at the end of a last day that is fully known, however the list goes on
+next-inside : (last : ℕ) → fullyKnown last ≡ true → startsMonth (last + 1) ≡ false
+unfolding fullyKnown
+next-inside last k = not-true (startsMonth (last + 1)) k
+
+pub ending-known : (last from : ℕ) (ls : List Leap) (expiry : ℕ) → fullyKnown last ≡ true → gapsFit from ls expiry ≡ true → expiry ≤ endDay
+    → endingBefore ls (last + 1) ≡ Ordinary
+ending-known last from ls expiry k h i = ending-within (last + 1) from ls expiry (next-inside last k) h i
 
 -- ---- from day to day, where the months rise
 

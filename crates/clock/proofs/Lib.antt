@@ -8,6 +8,7 @@ pub mod Back
 pub mod Rise
 pub mod Exact
 pub mod Taken
+pub mod LastDay
 pub mod Agree
 pub mod Differ
 pub mod Numbers

@@ -12,7 +12,7 @@ use lib.Dec.{eqb}
 use lib.ListN.{length, getD, take, set, replicate, length-set, length-replicate, getD-replicate}
 use lib.Seq.{set-out, getD-set-same, getD-set-other}
 use borrow.Author.Tests.{eqb-true, eqb-false}
-use Rattle.calendar.specs.Calendar.{lastMonth, endDay, monthStart}
+use Rattle.calendar.specs.Calendar.{endDay, monthStart}
 use Rattle.schedule.specs.declared.Sign.{Sign}
 use Rattle.schedule.specs.declared.Sign.the-variants.{Positive, Negative}
 use Rattle.schedule.specs.declared.Schedule.{Schedule}
@@ -146,7 +146,7 @@ guesses-one {starts} {guesses} p i at r b =
 
 -- ---- the list, prepared
 module _ (words : List ℕ) {last : ℕ} {starts ups downs guesses : List ℕ} (w : wellFormed (meant words) ≡ true)
-    (l : (expiryWord words ≤ lastMonth → last ≡ monthStart (expiryWord words) - 1) × (last < endDay)) (f : Fenced starts × Starts (meant words) starts)
+    (l : (expiryWord words ≤ endDay → last ≡ expiryWord words - 1) × (last < endDay)) (f : Fenced starts × Starts (meant words) starts)
     (u : Tallies (meant words) Positive ups) (d : Tallies (meant words) Negative downs) (g : Guesses starts guesses) where
   pub prepared-list : Prepared (meant words) last starts ups downs
   prepared-list = record { well = w; is-last = last-meant words w last (l .0); full = full-meant words w; starting = f .1; raised = u; lowered = d }

@@ -8,7 +8,7 @@ use native.Mathlib.Omega.{arith}
 use lib.Dec.{leb}
 use lib.ListN.{length, length-take}
 use Rattle.calendar.specs.Calendar.{firstDay, endDay, monthStart}
-use Rattle.calendar.proofs.Laws.{start-zero, start-lt, start-to}
+use Rattle.calendar.proofs.Laws.{start-zero}
 use Rattle.schedule.specs.declared.Sign.{Sign}
 use Rattle.schedule.specs.declared.Sign.the-variants.{Positive, Negative}
 use Rattle.schedule.specs.declared.Leap.{Leap}
@@ -19,10 +19,10 @@ use Rattle.schedule.proofs.Gaps.{parts, before-end}
 use Rattle.clock.specs.declared.days.Ending.{Ending}
 use Rattle.clock.specs.declared.days.Ending.the-variants.{Ordinary, Inserted, Deleted}
 use Rattle.clock.specs.Days.{microsPerDay, longDay, shortDay, count, tally, ending, dayLength, tai}
-use Rattle.clock.specs.Known.{expiryDay, lastDay}
+use Rattle.clock.specs.Known.{lastDay}
 use Rattle.clock.specs.Question.{firstTai}
 use Rattle.clock.specs.Inner.{mostDtai}
-use Rattle.clock.proofs.Leaps.{tally-none, tally-next, part}
+use Rattle.clock.proofs.Leaps.{ending-none, tally-none, tally-next, part}
 
 -- however a day ends, it has 86,399 to 86,401 s
 pub length-least : (w : Ending) → shortDay ≤ dayLength w
@@ -61,12 +61,16 @@ module _ (s : Schedule) (w : wellFormed s ≡ true) where
   tally-after sign day = tally-next sign 0 (leapsOf s) (s .expiry) day (parts s w .gaps)
 
   -- the list expires after the first day
-  pub expires-later : firstDay < expiryDay s
-  expires-later = omega (arith, start-zero, start-lt (before-end (leapsOf s) 0 (s .expiry) (parts s w .gaps)))
+  pub expires-later : firstDay < s .expiry
+  expires-later = omega (arith, start-zero, before-end (leapsOf s) 0 (s .expiry) (parts s w .gaps))
 
   -- and no later than the calendar
   pub last-inside : lastDay s < endDay
-  last-inside = omega (arith, expires-later, start-to (parts s w .end))
+  last-inside = omega (arith, expires-later, parts s w .end)
+
+  -- no leap of the list ends its last day
+  pub ending-last : ending s (lastDay s) ≡ Ordinary
+  ending-last = let z : lastDay s + 1 ≡ s .expiry = omega (arith, expires-later) in rw z (ending-none 0 (leapsOf s) (s .expiry) (parts s w .gaps))
 
   -- no more leaps take a second away than days have passed
   deleted-from : (k : ℕ) → tally Negative (leapsOf s) (firstDay + k) ≤ k

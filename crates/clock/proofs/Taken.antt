@@ -4,25 +4,27 @@ use mathlib.Core.Bool.{true}
 use mathlib.Core.Logic.{_↔_}
 use mathlib.Core.Path.{_≡_, _∙_}
 use Prim.Native.Nat.{ℕ, _<_, _≤_}
-use lib.Dec.{leb, ltb}
-use borrow.Author.Tests.{lt-ltb, le-leb, ltb-true, leb-true}
-use Rattle.refusals.specs.Refusals.{before1972, notKnown, notWellFormed}
+use native.Mathlib.Omega.{arith}
+use lib.Dec.{leb}
+use borrow.Author.Tests.{lt-ltb, le-ltb, le-leb, lt-leb, ltb-true, leb-true}
+use Rattle.refusals.specs.Refusals.{before1972, noInstant, notKnown, notWellFormed}
 use Rattle.calendar.specs.Calendar.{firstDay}
 use Rattle.schedule.specs.declared.Schedule.{Schedule}
 use Rattle.schedule.specs.Schedule.{wellFormed}
-use Rattle.clock.specs.Days.{ending, dayLength, dtai, tai}
+use Rattle.clock.specs.Days.{longDay, ending, dayLength, dtai, tai}
 use Rattle.clock.specs.Smoothed.{nanosPerDay, uts, utcOf}
-use Rattle.clock.specs.Known.{lastDay, taiCutoff, utsCutoff, nanosCutoff, knownDate, knownTai}
-use Rattle.clock.specs.Question.{Answer, given, firstTai, atUtc, dayOf, Question, DTAI, UTC-to-TAI, TAI-to-UTC, UTC-to-UTS, UTS-to-UTC, Value, ask, Utc}
+use Rattle.clock.specs.Known.{lastDay, taiCutoff, utsCutoff, nanosCutoff, taiEnd, knownTai}
+use Rattle.clock.specs.Question.{Answer, given, refused, firstTai, atInstant, atUtc, dayOf, utcToTai, utcToUts, utsToUtc, Question, DTAI, UTC-to-TAI, TAI-to-UTC, UTC-to-UTS, UTS-to-UTC, Value, ask}
 use Rattle.clock.specs.Taken.{Within, Takes}
-use Rattle.clock.proofs.Checks.{pass, required, on-date, on-utc, utc-answered, on-uts, instant-passed}
+use Rattle.clock.proofs.Tai.{expires-later}
+use Rattle.clock.proofs.Checks.{known-after, sure-within, within-sure, pass, stop, required, on-date, on-utc, utc-answered, on-uts, instant-passed}
 
 module _ (s : Schedule) (w : wellFormed s ≡ true) where
   utc-taken : {A : Type 0} (cutoff day t : ℕ) (v : A)
       → ((firstDay ≤ day) × (t < dayLength (ending s day)) × Within (lastDay s) cutoff day t) ↔ ((x : A) × (atUtc s cutoff day t v ≡ given x))
   utc-taken cutoff day t v = (
-    λ h. (v, utc-answered s cutoff day t v w (h .0) (h .2) (h .1)),
-    λ h. let k = on-utc s cutoff day t v (h .0) (h .1) in (k .from, k .below, k .sure),
+    λ h. (v, utc-answered s cutoff day t v w (h .0) (within-sure (h .2)) (h .1)),
+    λ h. let k = on-utc s cutoff day t v (h .0) (h .1) in (k .from, k .below, sure-within (k .sure)),
   )
 
   -- a question is answered exactly when the schedule takes it
@@ -35,16 +37,49 @@ module _ (s : Schedule) (w : wellFormed s ≡ true) where
   taken (TAI-to-UTC x) = (
     λ h. (
       record { day = dayOf s x; micros = _ },
-      pass notWellFormed w ∙ pass before1972 (le-leb firstTai x (h .0)) ∙ pass notKnown (lt-ltb x (tai s (lastDay s) taiCutoff) (h .1)),
+      pass notWellFormed w ∙ pass before1972 (le-leb firstTai x (h .0)) ∙ pass notKnown (lt-ltb x (taiEnd s) (h .1)),
     ),
     λ h.
         let a = required (wellFormed s) notWellFormed (h .1) in
         let b = required (leb firstTai x) before1972 (a .1) in
         let c = required (knownTai s x) notKnown (b .1) in
-        (leb-true firstTai x (b .0), ltb-true x (tai s (lastDay s) taiCutoff) (c .0)),
+        (leb-true firstTai x (b .0), ltb-true x (taiEnd s) (c .0)),
   )
   taken (UTC-to-UTS day t) = utc-taken utsCutoff day t (uts (ending s day) t)
   taken (UTS-to-UTC day u) = (
-    λ h. (utcOf (ending s day) u, instant-passed s nanosPerDay nanosCutoff day u (record { well = w; from = h .0; below = h .1; sure = h .2 })),
-    λ h. let k = on-uts s day u (utcOf (ending s day) u) (h .0) (h .1) in (k .0 .from, k .0 .below, k .0 .sure),
+    λ h. (utcOf (ending s day) u, instant-passed s nanosPerDay nanosCutoff day u (record { well = w; from = h .0; below = h .1; sure = within-sure (h .2) })),
+    λ h. let k = on-uts s day u (utcOf (ending s day) u) (h .0) (h .1) in (k .0 .from, k .0 .below, sure-within (k .0 .sure)),
   )
+
+module _ (s : Schedule) (w : wellFormed s ≡ true) (day : ℕ) (from : 41_317 ≤ day) where
+  none-there : {A : Type 0} (limit cutoff t : ℕ) (a : Answer A) → limit ≤ t → atInstant s limit cutoff day t a ≡ refused 9
+  none-there limit cutoff t a h = pass notWellFormed w ∙ pass before1972 (le-leb firstDay day from) ∙ stop _ noInstant (le-ltb t limit h)
+
+  -- from 86,401,000,000 of UTC on there is no such instant (9) on any day from 1972 on, whether that day is known or not
+  pub no-utc : (t : ℕ) → 86_401_000_000 ≤ t → (utcToTai s day t ≡ refused 9) × (utcToUts s day t ≡ refused 9)
+  no-utc t h = (none-there longDay taiCutoff t _ h, none-there longDay utsCutoff t _ h)
+
+  -- and likewise from 86,400,000,000,000 of UTS on
+  pub no-uts : (u : ℕ) → 86_400_000_000_000 ≤ u → utsToUtc s day u ≡ refused 9
+  no-uts u h = none-there nanosPerDay nanosCutoff u _ h
+
+  module _ (late : s .expiry ≤ day) where
+    after-last : lastDay s < day
+    after-last = omega (arith, expires-later s w)
+
+    not-there : {A : Type 0} (limit cutoff t : ℕ) (a : Answer A) → t < limit → atInstant s limit cutoff day t a ≡ refused 10
+    not-there limit cutoff t a h =
+        pass notWellFormed w
+        ∙ pass before1972 (le-leb firstDay day from)
+        ∙ pass noInstant (lt-ltb t limit h)
+        ∙ stop a notKnown (known-after (lastDay s) cutoff day t after-last)
+
+    -- from the expiry day on nothing is known (10): no DTAI, and no instant below those bounds
+    pub no-dtai : ask s (DTAI day) ≡ refused 10
+    no-dtai = pass notWellFormed w ∙ pass before1972 (le-leb firstDay day from) ∙ stop _ notKnown (lt-leb day (lastDay s) after-last)
+
+    pub utc-unknown : (t : ℕ) → t < 86_401_000_000 → (utcToTai s day t ≡ refused 10) × (utcToUts s day t ≡ refused 10)
+    utc-unknown t h = (not-there longDay taiCutoff t _ h, not-there longDay utsCutoff t _ h)
+
+    pub uts-unknown : (u : ℕ) → u < 86_400_000_000_000 → utsToUtc s day u ≡ refused 10
+    uts-unknown u h = not-there nanosPerDay nanosCutoff u _ h

@@ -1,19 +1,19 @@
 -- "The expiry mark", and what "Times" says of Z: how far a schedule's knowledge goes. Every refusal 10 comes from here.
 -- Assumes nothing: these are definitions.
-use mathlib.Core.Bool.{Bool, _&&_, _||_}
-use Prim.Native.Nat.{ℕ, _-_}
+use mathlib.Core.Bool.{Bool, _&&_, _||_, not, cond}
+use Prim.Native.Nat.{ℕ, _+_, _-_}
 use lib.Dec.{leb, ltb, eqb}
-use Rattle.calendar.specs.Calendar.{monthStart}
+use Rattle.calendar.specs.Calendar.{startsMonth}
 use Rattle.schedule.specs.declared.Schedule.{Schedule}
-use Rattle.clock.specs.Days.{tai}
+use Rattle.clock.specs.Days.{microsPerDay, tai}
 
--- the first day of the expiry month
-abbrev pub expiryDay : Schedule → ℕ
-expiryDay s = monthStart (s .expiry)
-
--- "Z", the last day before expiry: it has a known DTAI and an unknown length
+-- "Z", the last day before expiry: it has a known DTAI, and an unknown length if the expiry is the first of a month
 abbrev pub lastDay : Schedule → ℕ
-lastDay s = expiryDay s - 1
+lastDay s = s .expiry - 1
+
+-- whether Z is fully known: the day after it, the expiry, isn't the first of a month
+unfoldable pub fullyKnown : ℕ → Bool
+fullyKnown Z = not (startsMonth (Z + 1))
 
 -- TAI is given on Z below this microsecond
 abbrev pub taiCutoff : ℕ
@@ -26,11 +26,11 @@ utsCutoff = 85_399_000_000
 abbrev pub nanosCutoff : ℕ
 nanosCutoff = 85_399_000_000_000
 
--- before the last day, and on it below the cut-off
+-- before Z, and on Z below the cut-off, which does not apply if Z is fully known
 unfoldable pub knownTo : ℕ → ℕ → ℕ → ℕ → Bool
-knownTo last cutoff day t = ltb day last || (eqb day last && ltb t cutoff)
+knownTo Z cutoff day t = ltb day Z || (eqb day Z && (fullyKnown Z || ltb t cutoff))
 
--- an instant, t into a day, is known before Z, and on Z below the cut-off
+-- an instant, t into a day, is known before Z, and on Z below the cut-off or if Z is fully known
 abbrev pub known : Schedule → ℕ → ℕ → ℕ → Bool
 known s cutoff day t = knownTo (lastDay s) cutoff day t
 
@@ -38,6 +38,10 @@ known s cutoff day t = knownTo (lastDay s) cutoff day t
 abbrev pub knownDate : Schedule → ℕ → Bool
 knownDate s day = leb day (lastDay s)
 
--- TAI to UTC is given below the TAI of Z at 86,399,000,000
+-- the TAI of Z at 86,399,000,000; or of Z's end, if it is fully known
+unfoldable pub taiEnd : Schedule → ℕ
+taiEnd s = tai s (lastDay s) (cond (fullyKnown (lastDay s)) microsPerDay taiCutoff)
+
+-- TAI to UTC is given below that
 abbrev pub knownTai : Schedule → ℕ → Bool
-knownTai s x = ltb x (tai s (lastDay s) taiCutoff)
+knownTai s x = ltb x (taiEnd s)

@@ -1,20 +1,23 @@
 // What a schedule says of a day, from one look at the schedule and one lookup in the calendar.
 ghost use mathlib.Core.Path.{_≡_};
 ghost use Prim.Native.Nat.{ℕ, _+_, _-_, _≤_, _<_};
-ghost use Rattle.calendar.specs.Calendar.{firstDay, lastMonth, endDay, monthStart};
+ghost use Rattle.calendar.specs.Calendar.{firstDay, endDay};
 ghost use Rattle.clock.specs.Days.{dayLength, tai};
 ghost use Rattle.clock.specs.Known.{lastDay};
+ghost use Rattle.clock.specs.Question.{atDate};
 ghost use mathlib.Core.Bool.{true};
 ghost use Rattle.schedule.specs.Schedule.{wellFormed};
 ghost use Rattle.schedule.specs.WordLayout.{meant};
-ghost use Rattle.clock.specs.Inner.{SurveyedOn, endingBy, dayOn, DayFor};
+ghost use Rattle.clock.specs.Inner.{SurveyedOn, endingBy, dayOn, ListFor, DayFor, told};
 use crate::inplace::look_at;
 use crate::look::Survey;
 use crate::look::look;
 use crate::look::wide;
 use calendar::END_DAY;
 use calendar::FIRST_DAY;
-use schedule::LAST_MONTH;
+use refusals::BEFORE_1972;
+use refusals::NOT_KNOWN;
+use refusals::NOT_WELL_FORMED;
 use schedule::Schedule;
 
 // A second in microseconds.
@@ -60,14 +63,17 @@ pub(crate) fn day_length(w: Ending) -> u64
     }
 }
 
-// The last day before a month starts. A month past 2400, at which no list expires, gets the last day of the calendar.
-pub(crate) fn day_before(month: u32) -> u64
-    ensures { λ r. ⌜ (month ≤ lastMonth → r ≡ monthStart month - 1) × (r < endDay) ⌝ }
+// The last day before an expiry. A day past the calendar, on which no list expires, gets the last day of the calendar, and day 0 itself.
+pub(crate) fn day_before(expiry: u32) -> u64
+    ensures { λ r. ⌜ (expiry ≤ endDay → r ≡ expiry - 1) × (r < endDay) ⌝ }
 {
-    if LAST_MONTH < month {
+    if schedule::END_DAY < expiry {
         return END_DAY - 1;
     }
-    calendar::first_day(month as u16) - 1
+    if expiry == 0 {
+        return 0;
+    }
+    (expiry - 1) as u64
 }
 
 // How a day ends, by the leaps in effect on it and on the next day.
@@ -113,6 +119,22 @@ pub(crate) fn day_in(words: &[u32; 514], last: u64, day: u64) -> Day
     let found = calendar::month_of(day);
     let v = look_at(words, wide(found.month), day);
     day_by(v, last)
+}
+
+// The number with which a date is refused, or 0, by whether the schedule is well formed and its last day.
+pub(crate) fn date_refusal(well: bool, last: u64, date: u64) -> u8
+    ensures { λ r. ⌜ ((s : Schedule) → ListFor s well last → atDate s date tt ≡ told r) ⌝ }
+{
+    if !well {
+        return NOT_WELL_FORMED;
+    }
+    if date < FIRST_DAY {
+        return BEFORE_1972;
+    }
+    if last < date {
+        return NOT_KNOWN;
+    }
+    0
 }
 
 // TAI at the start of a day.

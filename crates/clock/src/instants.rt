@@ -1,12 +1,16 @@
 // What an instant of UTC or of UTS is refused with, in the paper's order, by what the schedule says of its day.
 ghost use mathlib.Core.Path.{_≡_};
-ghost use Rattle.clock.specs.Known.{knownTo};
+ghost use Prim.Native.Nat.{_≤_};
+ghost use Rattle.clock.specs.Days.{shortDay};
+ghost use Rattle.clock.specs.Known.{fullyKnown, knownTo};
 ghost use Rattle.clock.specs.Question.{given, atInstant, atUtc};
 ghost use Rattle.clock.specs.Inner.{ListFor, DayFor, told};
 use crate::days::Day;
 use crate::days::LONG_DAY;
 use crate::days::SHORT_DAY;
+use crate::days::date_refusal;
 use crate::days::day_length;
+use calendar::END_DAY;
 use calendar::FIRST_DAY;
 use refusals::BEFORE_1972;
 use refusals::NO_INSTANT;
@@ -14,7 +18,17 @@ use refusals::NOT_KNOWN;
 use refusals::NOT_WELL_FORMED;
 use schedule::Schedule;
 
-// Whether a time of a day is known: before the last day, and on it below the cut-off.
+// Whether the last day is fully known: the next day isn't the first of a month.
+fn is_whole(last: u64) -> bool
+    ensures { λ r. ⌜ r ≡ fullyKnown last ⌝ }
+{
+    if END_DAY <= last {
+        return true;
+    }
+    !calendar::is_first(last + 1)
+}
+
+// Whether a time of a day is known: before the last day, and on it below the cut-off or if it is fully known.
 pub(crate) fn is_known(last: u64, cutoff: u64, day: u64, t: u64) -> bool
     ensures { λ r. ⌜ r ≡ knownTo last cutoff day t ⌝ }
 {
@@ -24,7 +38,10 @@ pub(crate) fn is_known(last: u64, cutoff: u64, day: u64, t: u64) -> bool
     if last < day {
         return false;
     }
-    t < cutoff
+    if t < cutoff {
+        return true;
+    }
+    is_whole(last)
 }
 
 // The number with which an instant of UTC or of UTS is refused, or 0, by whether the schedule is well formed and its last day: there is no
@@ -54,10 +71,15 @@ pub(crate) fn instant_refusal(
     0
 }
 
-// The number with which an instant of UTC is refused, or 0: at last it must lie within the day's own length.
+// The number with which an instant of UTC is refused, or 0: at last it must lie within the day's own length. Below the cut-off it is known on
+// every known date.
 pub(crate) fn utc_refusal(k: Day, cutoff: u64, day: u64, t: u64) -> u8
+    requires { ⌜ cutoff ≤ shortDay ⌝ }
     ensures { λ r. ⌜ ((s : Schedule) → DayFor s day k → atUtc s cutoff day t tt ≡ told r) ⌝ }
 {
+    if t < cutoff {
+        return date_refusal(k.well, k.last, day);
+    }
     let number = instant_refusal(k.well, k.last, LONG_DAY, cutoff, day, t);
     if number != 0 {
         return number;

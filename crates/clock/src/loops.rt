@@ -82,7 +82,7 @@ fn reply_uts(
     ensures { λ r. ⌜ ((s : Schedule) → Prepared s last (now (starts .entry)) (now (ups .entry)) (now (downs .entry)) → HandsValue 0 (utcToUts s day micros) (r .number) (r .value)) ⌝ }
 {
     if micros < UTS_CUTOFF {
-        let a = early_uts(true, last, day, micros);
+        let a = early_uts(last, day, micros);
         return Reply {
             number: uts_number(a),
             value: uts_value(a),
@@ -109,7 +109,7 @@ fn reply_micros(
     ensures { λ r. ⌜ ((s : Schedule) → Prepared s last (now (starts .entry)) (now (ups .entry)) (now (downs .entry)) → HandsValue 0 (utsToUtc s day nanos) (r .number) (r .value)) ⌝ }
 {
     if nanos < NANOS_CUTOFF {
-        let a = early_micros(true, last, day, nanos);
+        let a = early_micros(last, day, nanos);
         return Reply {
             number: micros_number(a),
             value: micros_value(a),

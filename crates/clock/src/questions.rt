@@ -5,10 +5,10 @@ ghost use Prim.Native.Nat.{_+_, _<_, min};
 ghost use lib.IntN.{subℕ};
 ghost use Rattle.clock.specs.Days.{firstDtai};
 ghost use Rattle.clock.specs.Known.{utsCutoff, nanosCutoff};
-ghost use Rattle.clock.specs.Question.{atDate, dtaiOn, utcToTai, taiToUtc, utcToUts, utsToUtc};
+ghost use Rattle.clock.specs.Question.{dtaiOn, utcToTai, taiToUtc, utcToUts, utsToUtc};
 ghost use Rattle.clock.specs.Answers.{dtaiAnswer, taiAnswer, utcAnswer, utsAnswer, microsAnswer};
 ghost use Rattle.schedule.specs.declared.Schedule.{Schedule};
-ghost use Rattle.clock.specs.Inner.{ListFor, DayFor, Said, told, nearDay, onDay};
+ghost use Rattle.clock.specs.Inner.{ListFor, DayFor, Said, nearDay, onDay};
 use crate::DtaiAnswer;
 use crate::MicrosAnswer;
 use crate::TaiAnswer;
@@ -19,9 +19,9 @@ use crate::UtsAnswer;
 use crate::UtsNanos;
 use crate::days::Day;
 use crate::days::FIRST_DTAI;
-use crate::days::LONG_DAY;
 use crate::days::MICROS_PER_DAY;
 use crate::days::SHORT_DAY;
+use crate::days::date_refusal;
 use crate::days::day_length;
 use crate::days::start_of;
 use crate::instants::instant_refusal;
@@ -53,22 +53,6 @@ pub(crate) const NANOS_CUTOFF: u64 = 85_399_000_000_000;
 // No DTAI is above 266 s: in microseconds.
 const MOST_DTAI: u64 = 266_000_000;
 
-// The number with which a date is refused, or 0.
-fn date_refusal(k: Day, date: u64) -> u8
-    ensures { λ r. ⌜ ((s : Schedule) → DayFor s date k → atDate s date tt ≡ told r) ⌝ }
-{
-    if !k.well {
-        return NOT_WELL_FORMED;
-    }
-    if date < FIRST_DAY {
-        return BEFORE_1972;
-    }
-    if k.last < date {
-        return NOT_KNOWN;
-    }
-    0
-}
-
 // DTAI by which so many leaps of each sign are in effect; it may be below zero.
 fn dtai_by(up: u16, down: u16) -> i32
     ensures { λ r. ⌜ r ≡ subℕ (firstDtai + up) down ⌝ }
@@ -80,7 +64,7 @@ fn dtai_by(up: u16, down: u16) -> i32
 pub(crate) fn dtai_on(k: Day, day: u64) -> DtaiAnswer
     ensures { λ r. ⌜ ((s : Schedule) → DayFor s day k → r ≡ dtaiAnswer (dtaiOn s day)) ⌝ }
 {
-    let number = date_refusal(k, day);
+    let number = date_refusal(k.well, k.last, day);
     if number != 0 {
         return DtaiAnswer::Refused(number);
     }
@@ -112,12 +96,12 @@ pub(crate) fn uts_on(k: Day, day: u64, micros: u64) -> UtsAnswer
     UtsAnswer::Given(UtsNanos(smoothed(w, micros)))
 }
 
-// UTC to smoothed time before the last 1,001 s of a day, where it does not depend on how the day ends.
-pub(crate) fn early_uts(well: bool, last: u64, day: u64, micros: u64) -> UtsAnswer
+// UTC to smoothed time under a well-formed list, before the last 1,001 s of a day, where it does not depend on how the day ends and is known on every known date.
+pub(crate) fn early_uts(last: u64, day: u64, micros: u64) -> UtsAnswer
     requires { ⌜ micros < utsCutoff ⌝ }
-    ensures { λ r. ⌜ ((s : Schedule) → ListFor s well last → r ≡ utsAnswer (utcToUts s day micros)) ⌝ }
+    ensures { λ r. ⌜ ((s : Schedule) → ListFor s true last → r ≡ utsAnswer (utcToUts s day micros)) ⌝ }
 {
-    let number = instant_refusal(well, last, LONG_DAY, UTS_CUTOFF, day, micros);
+    let number = date_refusal(true, last, day);
     if number != 0 {
         return UtsAnswer::Refused(number);
     }
@@ -125,11 +109,11 @@ pub(crate) fn early_uts(well: bool, last: u64, day: u64, micros: u64) -> UtsAnsw
 }
 
 // Smoothed time to UTC, likewise.
-pub(crate) fn early_micros(well: bool, last: u64, day: u64, nanos: u64) -> MicrosAnswer
+pub(crate) fn early_micros(last: u64, day: u64, nanos: u64) -> MicrosAnswer
     requires { ⌜ nanos < nanosCutoff ⌝ }
-    ensures { λ r. ⌜ ((s : Schedule) → ListFor s well last → r ≡ microsAnswer (utsToUtc s day nanos)) ⌝ }
+    ensures { λ r. ⌜ ((s : Schedule) → ListFor s true last → r ≡ microsAnswer (utsToUtc s day nanos)) ⌝ }
 {
-    let number = instant_refusal(well, last, NANOS_PER_DAY, NANOS_CUTOFF, day, nanos);
+    let number = date_refusal(true, last, day);
     if number != 0 {
         return MicrosAnswer::Refused(number);
     }
@@ -191,16 +175,14 @@ pub(crate) fn utc_on(k: Day, near: u64, tai: u64) -> UtcAnswer
     }
     let last = k.last;
     let t = tai - start_of(k, near);
-    // Every day has so much, however it ends.
+    // Every day has so much, however it ends, and on the last day it is known.
     if t < SHORT_DAY {
-        return on_day(near, t, last);
+        return UtcAnswer::Given(near, UtcMicros(t));
     }
     let w = k.ending;
     let length = day_length(w);
-    if near < last {
-        if length <= t {
-            return on_day(near + 1, t - length, last);
-        }
+    if length <= t {
+        return on_day(near + 1, t - length, last);
     }
     on_day(near, t, last)
 }

@@ -23,6 +23,7 @@ use crate::questions::near_day;
 use crate::questions::tai_on;
 use crate::questions::utc_on;
 use crate::questions::uts_on;
+use refusals::NOT_WELL_FORMED;
 
 // DTAI, TAI minus UTC, for a date.
 pub fn dtai(words: &[u32; 514], day: u64) -> DtaiAnswer
@@ -55,7 +56,10 @@ pub fn utc_to_uts(words: &[u32; 514], day: u64, t: UtcMicros) -> UtsAnswer
 {
     let last = day_before(words[513]);
     if t.0 < UTS_CUTOFF {
-        return early_uts(schedule::is_list(words), last, day, t.0);
+        if schedule::is_list(words) {
+            return early_uts(last, day, t.0);
+        }
+        return UtsAnswer::Refused(NOT_WELL_FORMED);
     }
     uts_on(day_in(words, last, day), day, t.0)
 }
@@ -66,7 +70,10 @@ pub fn uts_to_utc(words: &[u32; 514], day: u64, u: UtsNanos) -> MicrosAnswer
 {
     let last = day_before(words[513]);
     if u.0 < NANOS_CUTOFF {
-        return early_micros(schedule::is_list(words), last, day, u.0);
+        if schedule::is_list(words) {
+            return early_micros(last, day, u.0);
+        }
+        return MicrosAnswer::Refused(NOT_WELL_FORMED);
     }
     micros_on(day_in(words, last, day), day, u.0)
 }

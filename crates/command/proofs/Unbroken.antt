@@ -2,20 +2,21 @@
 use mathlib.Core.Path.{refl}
 use mathlib.Core.Bool.{false}
 use mathlib.Core.List.{List, [], _∷_}
-use Prim.Native.Nat.{ℕ}
+use Prim.Native.Nat.{ℕ, _+_, _-_}
 use Rattle.format.specs.Ascii.{ascii}
 use Rattle.format.proofs.Fields.{hasNo}
 use Rattle.format.proofs.Unbroken.{Unbroken, empty, more, append, either, digit, in-decimal, with-sign, in-refusal}
 use Rattle.schedule.specs.declared.Leap.{Leap}
 use Rattle.schedule.specs.declared.Schedule.{Schedule}
-use Rattle.schedule.specs.Schedule.{leapsOf}
+use Rattle.calendar.specs.Calendar.{monthStart, monthOf}
+use Rattle.schedule.specs.Schedule.{leapsOf, expiryMonth}
 use Rattle.text.specs.Write.{digits, textFrom, textOf}
 use Rattle.compare.proofs.Shown.{sign}
 use Rattle.line.specs.declared.words.Word.{Word}
 use Rattle.line.specs.declared.words.Word.the-variants.{Show, Nybbles, Text, Dtai, Tai, Utc, Uts, Unsmooth, Compare, Longer, Other}
 use Rattle.format.specs.Lines.{between}
 use Rattle.line.specs.Words.{usage, expected}
-use Rattle.show.specs.Show.{date, stretch, stretches, shown}
+use Rattle.show.specs.Show.{date, dateOf, stretch, stretches, shown}
 
 -- ---- text lists
 
@@ -30,7 +31,7 @@ text-from from (l ∷ ls) expiry = let rest = text-from (l .month) ls expiry in 
 
 pub in-text : (s : Schedule) → Unbroken (textOf s)
 unfolding textOf
-in-text s = text-from 0 (leapsOf s) (s .expiry)
+in-text s = text-from 0 (leapsOf s) (expiryMonth s)
 
 -- ---- what was expected
 
@@ -54,9 +55,13 @@ in-date : (m d : ℕ) → Unbroken (date m d)
 unfolding date
 in-date m d = search (append, in-decimal, more, digit, empty) depth 8
 
+in-day : (day : ℕ) → Unbroken (dateOf day)
+unfolding dateOf
+in-day day = in-date (monthOf day) (day - monthStart (monthOf day) + 1)
+
 in-stretch : (s : Schedule) (from to : ℕ) → Unbroken (stretch s from to)
 unfolding stretch
-in-stretch s from to = search (append, more, in-date, with-sign)
+in-stretch s from to = search (append, more, in-day, with-sign)
 
 pub in-between : Unbroken (between false)
 unfolding hasNo between
@@ -65,7 +70,7 @@ in-between = record { none = refl }
 in-stretches : (s : Schedule) (from : ℕ) (ls : List Leap) → Unbroken (stretches false s from ls)
 unfolding stretches
 in-stretches s from [] = in-stretch s from (s .expiry)
-in-stretches s from (l ∷ ls) = let rest = in-stretches s (l .month) ls in search (append, in-stretch, in-between)
+in-stretches s from (l ∷ ls) = let rest = in-stretches s (monthStart (l .month)) ls in search (append, in-stretch, in-between)
 
 unknown : Unbroken (ascii " unknown")
 unfolding hasNo
@@ -73,4 +78,4 @@ unknown = record { none = refl }
 
 pub in-shown : (s : Schedule) → Unbroken (shown false s)
 unfolding shown
-in-shown s = search (either, append, in-stretches, in-between, in-date, unknown, in-refusal)
+in-shown s = search (either, append, in-stretches, in-between, in-day, unknown, in-refusal)

@@ -8,6 +8,7 @@ use Rattle.format.specs.Ascii.{ascii}
 use Rattle.format.specs.Decimal.{decimal, digitsIn}
 use Rattle.format.specs.Lines.{between}
 use Rattle.format.specs.Parts.{same, parts}
+use Rattle.calendar.specs.Calendar.{isLeapYear, monthLengths, daysInMonth, monthStart}
 use Rattle.schedule.specs.Schedule.{isExpired}
 use Rattle.schedule.specs.Answers.{byReading}
 use Rattle.schedule.specs.Extends.{below, sameLeaps}
@@ -29,8 +30,8 @@ SayAll (answers lines line answer ∷ rs) = (answerTo lines (ascii line) ≡ asc
 
 abbrev pub table : List Row
 table =
-    answers true "compare 6+6+5? 6+12+5?" "12 + 0\n18 ? +\n= 17 23\ncontradict"
-    ∷ answers false "compare 6+6+5? 6+12+5?" "12 + 0; 18 ? +; = 17 23; contradict"
+    answers true "compare 6+6+5? 6+12+5?" "12 + 0\n18 ? +\n= 41834 42017\ncontradict"
+    ∷ answers false "compare 6+6+5? 6+12+5?" "12 + 0; 18 ? +; = 41834 42017; contradict"
     -- of a refusal the number alone, the first list's before the second's
     ∷ answers true "compare 06+5? 5" "3"
     ∷ answers true "compare 5? 5" "1"
@@ -50,5 +51,5 @@ table =
 
 -- every row of the table holds of the definitions
 pub worked : SayAll table
-unfolding answerTo parts wordOf same usage expected withOne withTwo withThree listOf longerBy refusal readText readFrom byReading joined linesOf monthLines lineAt hasLeap leapMark isExpired expiryLines relationBy between decimal digitsIn below sameLeaps chosenOf
+unfolding monthStart daysInMonth monthLengths isLeapYear answerTo parts wordOf same usage expected withOne withTwo withThree listOf longerBy refusal readText readFrom byReading joined linesOf monthLines lineAt hasLeap leapMark isExpired expiryLines relationBy between decimal digitsIn below sameLeaps chosenOf
 worked = (refl, (refl, (refl, (refl, (refl, (refl, (refl, (refl, (refl, (refl, (refl, (refl, (refl, tt)))))))))))))

@@ -5,7 +5,7 @@ ghost use Prim.Native.Nat.{_≤_};
 ghost use lib.ListN.{length};
 ghost use Rattle.format.specs.Output.{PutsUpTo};
 ghost use Rattle.format.specs.Hex.{unhex};
-ghost use Rattle.schedule.specs.Schedule.{wellFormed};
+ghost use Rattle.schedule.specs.Schedule.{leavesGap, wellFormed};
 ghost use Rattle.text.specs.Write.{textOf};
 ghost use Rattle.nybbles.specs.Read.{readNybbles};
 ghost use Rattle.show.specs.Show.{shown};
@@ -36,7 +36,7 @@ pub(crate) fn put_list_shown(out: &mut [u8], at: usize, lines: bool, list: &[u8]
 
 // Puts a schedule as text.
 fn put_text(out: &mut [u8], at: usize, s: Schedule) -> usize
-    requires { ⌜ wellFormed s ≡ true ⌝ }
+    requires { ⌜ (wellFormed s ≡ true) × (leavesGap s ≡ true) ⌝ }
     ensures { λ r. ⌜ PutsUpTo 1028 (now (out .entry)) (now (out .exit)) at r (textOf s) ⌝ }
 {
     let mut bytes = [0u8; 1028];

@@ -16,6 +16,7 @@ use Rattle.format.specs.Lines.{between}
 use Rattle.schedule.specs.declared.Leap.{Leap}
 use Rattle.schedule.specs.declared.Schedule.{Schedule}
 use Rattle.schedule.specs.Schedule.{leapsOf, gapsFit, wellFormed}
+use Rattle.schedule.proofs.WordLayout.{within}
 use Rattle.schedule.proofs.Cases.{by-bool}
 use Rattle.schedule.proofs.Gaps.{later, before-end, parts}
 use Rattle.compare.specs.Compare.{hasLeap, leapMark}
@@ -69,10 +70,10 @@ unfolding markLine
 line-shape end m {x′ = x′} {y′ = y′} e f g = rw (e, f, g) (by-bool (eqb x′ y′) (λ t. simp t) (λ n. simp n))
 
 -- the first leap of a well-formed schedule is at most at month 2400
-first-most : (ls : List Leap) (from e : ℕ) → gapsFit from ls e ≡ true → e ≤ 2400 → firstMonth ls ≤ pastMonths
+first-most : (ls : List Leap) (from e : ℕ) → gapsFit from ls e ≡ true → e ≤ 114366 → firstMonth ls ≤ pastMonths
 unfolding firstMonth
 first-most [] from e f h = omega arith
-first-most (l ∷ ls) from e f h = omega (arith, before-end ls (l .month) e (later from l ls e f))
+first-most (l ∷ ls) from e f h = let b = before-end ls (l .month) e (later from l ls e f) in omega (arith, within (l .month) (omega arith))
 
 -- ---- the loop
 

@@ -13,7 +13,7 @@ use Rattle.schedule.specs.declared.Sign.{Sign}
 use Rattle.schedule.specs.declared.Sign.the-variants.{Positive, Negative}
 use Rattle.schedule.specs.declared.Leap.{Leap}
 use Rattle.schedule.specs.declared.Schedule.{Schedule}
-use Rattle.schedule.specs.Schedule.{leapsOf, gapsFit}
+use Rattle.schedule.specs.Schedule.{monthStart, leapsOf, gapsFit}
 use Rattle.schedule.proofs.Cases.{by-bool}
 use Rattle.schedule.proofs.Expired.{is-expired, expired-from}
 use Rattle.schedule.proofs.Gaps.{fits-lt, first, later}
@@ -74,8 +74,8 @@ module _ (s : Schedule) (m : ℕ) where
   pub not-unknown : mark s m ≢ 63 → isUnknown s m ≡ false
   not-unknown n = by-bool (isUnknown s m) (λ t. absurd (n (unknown t))) (λ f. f)
 
-  -- the mark is `?` exactly at and after the list's expiry
-  pub unknown-exactly : (mark s m ≡ 63) ↔ (s .expiry ≤ m)
+  -- the mark is `?` exactly in months that start on the list's expiry day or later
+  pub unknown-exactly : (mark s m ≡ 63) ↔ (s .expiry ≤ monthStart m)
   unknown-exactly = (
     λ e. by-bool (isUnknown s m) (λ t. expired-from (s .expiry) m t) (λ f. absurd (known f e)),
     λ h. unknown (is-expired (s .expiry) m h),

@@ -14,7 +14,8 @@ use Rattle.schedule.specs.declared.Sign.{Sign}
 use Rattle.schedule.specs.declared.Sign.the-variants.{Positive, Negative}
 use Rattle.schedule.specs.declared.Leap.{Leap}
 use Rattle.schedule.specs.declared.Schedule.{Schedule}
-use Rattle.schedule.specs.Schedule.{maxLeaps, leapsOf, gapsFit, wellFormed}
+use Rattle.schedule.specs.Schedule.{monthStart, maxLeaps, leapsOf, gapsFit, wellFormed}
+use Rattle.schedule.proofs.WordLayout.{within}
 use Rattle.schedule.specs.Extends.{Extends, extends}
 use Rattle.schedule.proofs.Cases.{by-bool}
 use Rattle.schedule.proofs.Expired.{not-expired, known-until}
@@ -106,12 +107,12 @@ marked-leap (l ∷ ls) m h =
     by-bool (eqb (l .month) m) (λ t. rw t (sign-leap (l .sign))) (λ f. rw f (marked-leap ls m (rw f at h)))
 
 -- a list has its leaps before its expiry
-early : (ls : List Leap) (from e m : ℕ) → gapsFit from ls e ≡ true → hasLeap ls m ≡ true → m < e
+early : (ls : List Leap) (from e m : ℕ) → gapsFit from ls e ≡ true → hasLeap ls m ≡ true → monthStart m < e
 unfolding hasLeap
 early [] from e m g h = absurd (true≢false (sym h))
 early (l ∷ ls) from e m g h =
     let more = later from l ls e g in
-    by-bool (eqb (l .month) m) (λ t. omega (arith, eqb-true (l .month) m t, before-end ls (l .month) e more)) (λ f. early ls (l .month) e m more (rw f at h))
+    by-bool (eqb (l .month) m) (λ t. omega (arith, ap monthStart (eqb-true (l .month) m t), before-end ls (l .month) e more)) (λ f. early ls (l .month) e m more (rw f at h))
 
 module _ (s : Schedule) (m : ℕ) where
   -- a well-formed list has a leap at a month exactly where its mark is one
@@ -176,8 +177,8 @@ plus-exactly s m w = sign-exactly s m Positive w
 pub minus-exactly : (s : Schedule) (m : ℕ) → wellFormed s ≡ true → (mark s m ≡ 45) ↔ HasLeapOf (leapsOf s) m Negative
 minus-exactly s m w = sign-exactly s m Negative w
 
--- and `0` exactly where it is known before the expiry that there is no leap
-pub none-exactly : (s : Schedule) (m : ℕ) → (mark s m ≡ 48) ↔ ((m < s .expiry) × (hasLeap (leapsOf s) m ≡ false))
+-- and `0` exactly where the month starts before the expiry and there is no leap
+pub none-exactly : (s : Schedule) (m : ℕ) → (mark s m ≡ 48) ↔ ((monthStart m < s .expiry) × (hasLeap (leapsOf s) m ≡ false))
 none-exactly s m = (
   λ e.
       let f = not-unknown s m (λ z. omega (arith, e, z)) in
@@ -213,7 +214,7 @@ module _ (a b : Schedule) (m : ℕ) where
 
   -- such a month is at most 2400
   pub line-early : wellFormed a ≡ true → wellFormed b ≡ true → hasLine a b m ≡ true → m < 2401
-  line-early w w′ t =
-      ⊎-elim (λ (h : hasLeap (leapsOf a) m ≡ true). omega (arith, early (leapsOf a) 0 (a .expiry) m (parts a w .gaps) h, parts a w .end))
-      (λ (h : hasLeap (leapsOf b) m ≡ true). omega (arith, early (leapsOf b) 0 (b .expiry) m (parts b w′ .gaps) h, parts b w′ .end))
-      (test-parts .0 t .0)
+  line-early w w′ t = ⊎-elim (inside a w) (inside b w′) (test-parts .0 t .0)
+    where
+      inside : (s : Schedule) → wellFormed s ≡ true → hasLeap (leapsOf s) m ≡ true → m < 2401
+      inside s u h = omega (arith, within m (omega (arith, early (leapsOf s) 0 (s .expiry) m (parts s u .gaps) h, parts s u .end)))

@@ -18,6 +18,7 @@ use Rattle.schedule.specs.Extends.{Extends}
 use Rattle.schedule.proofs.Cases.{by-bool}
 use Rattle.schedule.proofs.Expired.{not-expired, known-until}
 use Rattle.schedule.proofs.Gaps.{parts}
+use Rattle.schedule.proofs.WordLayout.{within}
 use Rattle.schedule.proofs.Order.{both-ways}
 use Rattle.compare.specs.Compare.{hasLeap, leapMark, mark, Line, differ, hasLine, lineAt, monthLines, expiryLines, relation, linesOf, told}
 use Rattle.compare.proofs.Marks.{leap-marked, known-mark, known, not-unknown}
@@ -87,17 +88,22 @@ module _ (a b : Schedule) (e : ℕ) where
   found zero = inl (λ m h k. absurd (not-suc-le-zero h))
   found (suc n) = one-more n (found n)
 
+-- a month that a well-formed list knows is at most 2400
+known-early : (s : Schedule) → wellFormed s ≡ true → (m : ℕ) → isExpired (s .expiry) m ≡ false → m < 2401
+known-early s w m f = omega (arith, within m (omega (arith, known-until (s .expiry) m f, parts s w .end)))
+
 module _ (a b : Schedule) (w : wellFormed a ≡ true) (w′ : wellFormed b ≡ true) where
   -- leaps that differ in a month before both expiries
-  parts-at : {e : ℕ} → e ≤ a .expiry → e ≤ b .expiry → Unlike a b e e → Parting a b
-  parts-at h h′ u =
-      let f = not-expired (a .expiry) (u .month) (omega (arith, u .inside)) in
-      let g = not-expired (b .expiry) (u .month) (omega (arith, u .inside)) in
+  parts-at : {e : ℕ} → e ≤ a .expiry → e ≤ b .expiry → Unlike a b e 2401 → Parting a b
+  parts-at {e} h h′ u =
+      let before = known-until e (u .month) (u .known-there) in
+      let f = not-expired (a .expiry) (u .month) (omega arith) in
+      let g = not-expired (b .expiry) (u .month) (omega arith) in
       record {
         month = u .month;
         first = mark a (u .month);
         second = mark b (u .month);
-        line = month-stands a b (u .month) (omega (arith, u .inside, parts b w′ .end)) (line-known a b (u .month) f g (u .unlike));
+        line = month-stands a b (u .month) (u .inside) (line-known a b (u .month) f g (u .unlike));
         first-known = known a (u .month) f;
         second-known = known b (u .month) g;
       }
@@ -107,16 +113,16 @@ module _ (a b : Schedule) (w : wellFormed a ≡ true) (w′ : wellFormed b ≡ t
       elim (decLe (b .expiry) (a .expiry)) [
         | yes h ↦
             ⊎-elim
-            (λ (f : (m : ℕ) → m < b .expiry → isExpired (b .expiry) m ≡ false → leapMark (leapsOf a) m ≡ leapMark (leapsOf b) m).
-            inl (by-marks a b w w′ h (λ m k. f m (known-until (b .expiry) m k) k)))
-            (λ (u : Unlike a b (b .expiry) (b .expiry)). inr (inr (parts-at h (omega arith) u)))
-            (found a b (b .expiry) (b .expiry))
+            (λ (f : (m : ℕ) → m < 2401 → isExpired (b .expiry) m ≡ false → leapMark (leapsOf a) m ≡ leapMark (leapsOf b) m).
+            inl (by-marks a b w w′ h (λ m k. f m (known-early b w′ m k) k)))
+            (λ (u : Unlike a b (b .expiry) 2401). inr (inr (parts-at h (omega arith) u)))
+            (found a b (b .expiry) 2401)
         | no h ↦
             ⊎-elim
-            (λ (f : (m : ℕ) → m < a .expiry → isExpired (a .expiry) m ≡ false → leapMark (leapsOf a) m ≡ leapMark (leapsOf b) m).
-            inr (inl (by-marks b a w′ w (omega arith) (λ m k. sym (f m (known-until (a .expiry) m k) k)))))
-            (λ (u : Unlike a b (a .expiry) (a .expiry)). inr (inr (parts-at (omega arith) (omega arith) u)))
-            (found a b (a .expiry) (a .expiry))
+            (λ (f : (m : ℕ) → m < 2401 → isExpired (a .expiry) m ≡ false → leapMark (leapsOf a) m ≡ leapMark (leapsOf b) m).
+            inr (inl (by-marks b a w′ w (omega arith) (λ m k. sym (f m (known-early a w m k) k)))))
+            (λ (u : Unlike a b (a .expiry) 2401). inr (inr (parts-at (omega arith) (omega arith) u)))
+            (found a b (a .expiry) 2401)
       ]
 
   -- what both lists know and say otherwise
@@ -185,7 +191,7 @@ module _ (a b : Schedule) (full : length (a .leaps) ≡ maxLeaps) (full′ : len
         let p = others-none (monthLines a b 0 2401) (expiryLines a b) (relation a b) (relation a b) e in
         let z = expiries-same a b (p .1) in
         let alike : (m : ℕ) → isExpired (a .expiry) m ≡ false → leapMark (leapsOf a) m ≡ leapMark (leapsOf b) m
-        = λ m f. no-line-alike a b m f (rw z at f) (each-none a b 0 2401 (p .0) m (omega arith) (omega (arith, known-until (a .expiry) m f, parts a w .end))) in
+        = λ m f. no-line-alike a b m f (rw z at f) (each-none a b 0 2401 (p .0) m (omega arith) (omega (arith, known-early a w m f))) in
         both-ways a b full full′ w w′ (by-marks a b w w′ (omega (arith, z)) (λ m f. alike m (rw z f))) (by-marks b a w′ w (omega (arith, z)) (λ m f. sym (alike m f))),
     λ e. rw (← e, no-lines a 0 2401, no-expiries a),
   )

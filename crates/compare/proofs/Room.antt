@@ -1,4 +1,4 @@
--- A comparison of two well-formed lists has at most 4,629 bytes: a line has at most 9, that of a list's first leap at most 8.
+-- A comparison of two well-formed lists has at most 4,633 bytes: a line has at most 9, that of a list's first leap at most 8.
 -- Assumes nothing.
 use mathlib.Core.Path.{_≡_, refl, ap}
 use mathlib.Core.Bool.{Bool, true, false, not, cond, _&&_, _||_}
@@ -137,12 +137,12 @@ list-most (l ∷ ls) e n f h =
 few-leaps : (s : Schedule) → wellFormed s ≡ true → length (leapsOf s) ≤ 256
 few-leaps s w = omega (arith, length-take (s .count) (s .leaps), parts s w .room)
 
-expiries-most : (a b : Schedule) → wellFormed a ≡ true → wellFormed b ≡ true → length (expiryBytes (newline ∷ []) a b) ≤ 12
+expiries-most : (a b : Schedule) → wellFormed a ≡ true → wellFormed b ≡ true → length (expiryBytes (newline ∷ []) a b) ≤ 16
 unfolding expiryBytes
 expiries-most a b w v =
     by-bool (eqb (a .expiry) (b .expiry)) (λ t. rw t (omega arith))
     (λ f. rw (f, length-append (decimal (a .expiry)) (spaceByte ∷ decimal (b .expiry) ++ (newline ∷ [])), length-append (decimal (b .expiry)) (newline ∷ []))
-    (omega (arith, decimal-short 3 (a .expiry) (omega (arith, parts a w .end)), decimal-short 3 (b .expiry) (omega (arith, parts b v .end)))))
+    (omega (arith, decimal-short 5 (a .expiry) (omega (arith, parts a w .end)), decimal-short 5 (b .expiry) (omega (arith, parts b v .end)))))
 
 relation-most : (x y : Bool) → length (relationBy x y) ≤ 10
 unfolding relationBy
@@ -151,7 +151,7 @@ relation-most true false = omega arith
 relation-most false true = omega arith
 relation-most false false = omega arith
 
-bytes-most : (a b : Schedule) → wellFormed a ≡ true → wellFormed b ≡ true → length (comparison true a b ++ (newline ∷ [])) ≤ 4629
+bytes-most : (a b : Schedule) → wellFormed a ≡ true → wellFormed b ≡ true → length (comparison true a b ++ (newline ∷ [])) ≤ 4633
 unfolding comparison between
 bytes-most a b w v =
     simp length-append
@@ -164,6 +164,6 @@ bytes-most a b w v =
       relation-most (extends a b) (extends b a),
     ))
 
--- a comparison has at most 4,629 bytes
-pub at-most : (a b : Schedule) → wellFormed a ≡ true → wellFormed b ≡ true → length (compared a b) ≤ 4629
+-- a comparison has at most 4,633 bytes
+pub at-most : (a b : Schedule) → wellFormed a ≡ true → wellFormed b ≡ true → length (compared a b) ≤ 4633
 at-most a b w v = rw (compared-bytes a b) (bytes-most a b w v)

@@ -10,7 +10,8 @@ use lib.Dec.{eqb}
 use borrow.Author.Tests.{eq-eqb, ne-eqb, eqb-true}
 use Rattle.schedule.specs.declared.Leap.{Leap}
 use Rattle.schedule.specs.declared.Schedule.{Schedule}
-use Rattle.schedule.specs.Schedule.{leapsOf, isExpired, gapsFit, wellFormed}
+use Rattle.calendar.proofs.Laws.{start-lt}
+use Rattle.schedule.specs.Schedule.{monthStart, leapsOf, isExpired, gapsFit, wellFormed}
 use Rattle.schedule.specs.Extends.{below, Extends}
 use Rattle.schedule.proofs.Cases.{by-bool}
 use Rattle.schedule.proofs.Expired.{not-expired, expired-from}
@@ -73,7 +74,7 @@ told from (x ∷ xs) (y ∷ ys) e f g h a =
     elim (decLt (x .month) (y .month)) [
       | yes l ↦
           absurd (not-both (x .sign) (at-leap x xs (x .month) refl)
-          (a (x .month) (not-expired f (x .month) (omega (arith, before-end ys (y .month) f more′)))
+          (a (x .month) (not-expired f (x .month) (omega (arith, start-lt l, before-end ys (y .month) f more′)))
           ∙ (off-leap y ys (x .month) (λ z. omega arith) ∙ none-yet ys (y .month) f (x .month) more′ (omega arith))))
       | no l ↦
           elim (decLt (y .month) (x .month)) [
@@ -85,7 +86,7 @@ told from (x ∷ xs) (y ∷ ys) e f g h a =
                 let s : x .sign ≡ y .sign = sign-told (x .sign) (y .sign) (sym (at-leap x xs (y .month) z) ∙ (a (y .month) known ∙ at-leap y ys (y .month) refl)) in
                 let p : x ≡ y = leap-path z s in
                 let more″ = rw (← z) at more′ in
-                rw (not-expired f (x .month) (omega (arith, before-end ys (y .month) f more′)))
+                rw (not-expired f (x .month) (omega (arith, ap monthStart z, before-end ys (y .month) f more′)))
                 (ap₂ (λ v vs. v ∷ vs) p (told (x .month) xs ys e f more more″ (rest-alike x xs ys e f more more″ (rw (← p) at a))))
           ]
     ]

@@ -8,6 +8,7 @@ use Prim.Native.String.{String}
 use Rattle.format.specs.Ascii.{ascii}
 use Rattle.format.specs.Decimal.{decimal, digitsIn}
 use Rattle.format.specs.Lines.{between}
+use Rattle.calendar.specs.Calendar.{isLeapYear, monthLengths, daysInMonth, monthStart}
 use Rattle.schedule.specs.Schedule.{isExpired}
 use Rattle.schedule.specs.Answers.{byReading, fitting, fitted}
 use Rattle.schedule.specs.Extends.{below, sameLeaps}
@@ -39,10 +40,10 @@ SayAll (r ∷ rs) = Says r × SayAll rs
 abbrev pub table : List Row
 table =
     -- the paper's own example
-    writes "6+6+5?" "6+12+5?" ".................................." "12 + 0\n18 ? +\n= 17 23\ncontradict\n."
+    writes "6+6+5?" "6+12+5?" "........................................" "12 + 0\n18 ? +\n= 41834 42017\ncontradict\n."
     -- a leap in the month in which the other list expires, which extends it; a byte beyond the output stays
-    ∷ writes "6?" "6+5?" "...........................x" "6 ? +\n= 6 11\nextends 2\n....x"
-    ∷ writes "6+5?" "6?" "......................." "6 + ?\n= 11 6\nextends 1\n"
+    ∷ writes "6?" "6+5?" "..................................x" "6 ? +\n= 41499 41652\nextends 2\n....x"
+    ∷ writes "6+5?" "6?" ".............................." "6 + ?\n= 41652 41499\nextends 1\n"
     -- a leap where the other list knows that there is none; equal expiries have no line
     ∷ writes "11?" "6+5?" "................." "6 0 +\ncontradict\n"
     -- one month, two signs
@@ -56,12 +57,12 @@ table =
     ∷ writes "5?" "5?" "1234" "1234"
     -- the count is that of the bytes written
     ∷ answers "5?" "5?" 5 0 5
-    ∷ answers "6+6+5?" "6+12+5?" 33 0 33
+    ∷ answers "6+6+5?" "6+12+5?" 39 0 39
     -- the program: lines with LF between them, or `; `; of a refusal the number alone
-    ∷ prints true "6+6+5?" "6+12+5?" "12 + 0\n18 ? +\n= 17 23\ncontradict"
-    ∷ prints false "6+6+5?" "6+12+5?" "12 + 0; 18 ? +; = 17 23; contradict"
-    ∷ prints true "6?" "6+5?" "6 ? +\n= 6 11\nextends 2"
-    ∷ prints false "6?" "6+5?" "6 ? +; = 6 11; extends 2"
+    ∷ prints true "6+6+5?" "6+12+5?" "12 + 0\n18 ? +\n= 41834 42017\ncontradict"
+    ∷ prints false "6+6+5?" "6+12+5?" "12 + 0; 18 ? +; = 41834 42017; contradict"
+    ∷ prints true "6?" "6+5?" "6 ? +\n= 41499 41652\nextends 2"
+    ∷ prints false "6?" "6+5?" "6 ? +; = 41499 41652; extends 2"
     ∷ prints true "06+5?" "5" "3"
     ∷ prints false "5?" "5?x" "6"
     -- the longer of two, the first if they are the same, and none of two that contradict each other
@@ -75,5 +76,5 @@ table =
 
 -- every row of the table holds of the definitions
 pub worked : SayAll table
-unfolding readText readFrom byReading fitting fitted compared inLines joined linesOf monthLines lineAt hasLeap leapMark isExpired expiryLines relationBy between decimal digitsIn below sameLeaps chosenOf
+unfolding monthStart daysInMonth monthLengths isLeapYear readText readFrom byReading fitting fitted compared inLines joined linesOf monthLines lineAt hasLeap leapMark isExpired expiryLines relationBy between decimal digitsIn below sameLeaps chosenOf
 worked = (refl, (refl, (refl, (refl, (refl, (refl, (refl, (refl, (refl, (refl, (refl, (refl, (refl, (refl, (refl, (refl, (refl, (refl, (refl, (refl, (refl, (refl, (refl, (refl, (refl, tt)))))))))))))))))))))))))

@@ -23,8 +23,8 @@ use schedule::Writing;
 // Past the last month.
 const PAST_MONTHS: u32 = schedule::LAST_MONTH + 1;
 
-// The most bytes of a comparison in LF-ended lines: 510 lines of 9 for leaps and 2 of 8, 12 for the expiries and 11 for the last line.
-const ROOM: usize = 4629;
+// The most bytes of a comparison in LF-ended lines: 510 lines of 9 for leaps and 2 of 8, 16 for the expiries and 11 for the last line.
+const ROOM: usize = 4633;
 
 // The mark of a leap at a month.
 fn mark_of_leap(l: Leap, month: u32) -> u8
@@ -51,6 +51,7 @@ fn first_month(s: Schedule, i: usize) -> u32
 
 // Whether a list knows nothing of a month.
 fn is_unknown(s: Schedule, month: u32) -> bool
+    requires { ⌜ month ≤ 2400 ⌝ }
     ensures { λ r. ⌜ r ≡ isUnknown s month ⌝ }
 {
     schedule::is_expired(s.expiry, month)
@@ -58,7 +59,7 @@ fn is_unknown(s: Schedule, month: u32) -> bool
 
 // The mark of a list at a month, before which its leaps up to a place lie.
 fn mark_from(s: Schedule, i: usize, month: u32) -> u8
-    requires { ⌜ wellFormed s ≡ true ⌝ }
+    requires { ⌜ (wellFormed s ≡ true) × (month ≤ 2400) ⌝ }
     ensures { λ r. ⌜ r ≡ markFrom s i month ⌝ }
 {
     let count = s.count;
@@ -137,7 +138,7 @@ fn put_differences(out: &mut [u8], at: usize, lines: bool, a: Schedule, b: Sched
 // Puts `=` and both expiries where they differ.
 fn put_expiries(out: &mut [u8], at: usize, lines: bool, a: Schedule, b: Schedule) -> usize
     requires { ⌜ (wellFormed a ≡ true) × (wellFormed b ≡ true) ⌝ }
-    ensures { λ r. ⌜ PutsUpTo 13 (now (out .entry)) (now (out .exit)) at r (expiryBytes (between lines) a b) ⌝ }
+    ensures { λ r. ⌜ PutsUpTo 17 (now (out .entry)) (now (out .exit)) at r (expiryBytes (between lines) a b) ⌝ }
 {
     let first = a.expiry;
     let second = b.expiry;
@@ -170,7 +171,7 @@ fn put_relation(out: &mut [u8], at: usize, over: bool, under: bool) -> usize
 // Puts the comparison of two lists, LF between its lines or `; `.
 fn put_comparison(out: &mut [u8], at: usize, lines: bool, a: Schedule, b: Schedule) -> usize
     requires { ⌜ (wellFormed a ≡ true) × (wellFormed b ≡ true) ⌝ }
-    ensures { λ r. ⌜ PutsUpTo 5143 (now (out .entry)) (now (out .exit)) at r (comparison lines a b) ⌝ }
+    ensures { λ r. ⌜ PutsUpTo 5147 (now (out .entry)) (now (out .exit)) at r (comparison lines a b) ⌝ }
 {
     let over = schedule::extends(a, b);
     let under = schedule::extends(b, a);
@@ -213,7 +214,7 @@ pub fn compare_text(x: &[u8], y: &[u8], out: &mut [u8]) -> Writing
 
 // Puts the comparison of two text lists, LF between its lines or `; `; of a refusal the number alone.
 pub fn put_compared(out: &mut [u8], at: usize, lines: bool, x: &[u8], y: &[u8]) -> usize
-    ensures { λ r. ⌜ PutsUpTo 5143 (now (out .entry)) (now (out .exit)) at r (comparisonOf lines (now (x .entry)) (now (y .entry))) ⌝ }
+    ensures { λ r. ⌜ PutsUpTo 5147 (now (out .entry)) (now (out .exit)) at r (comparisonOf lines (now (x .entry)) (now (y .entry))) ⌝ }
 {
     let lists = read_both(x, y);
     let number = lists.number;

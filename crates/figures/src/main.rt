@@ -228,6 +228,39 @@ fn atomic(s: Schedule) {
     tai(b"next TAI", s, 41499, 0);
 }
 
+// A list without leaps that expires on a day.
+fn expiring(expiry: u32) -> Schedule {
+    let none = schedule::blank();
+    let leaps = none.leaps;
+    Schedule {
+        leaps,
+        count: 0,
+        expiry,
+    }
+}
+
+// 10/14: which expiry days of a list without leaps are well formed and can be written.
+fn expiries() {
+    written(b"until 41317", expiring(41_317));
+    written(b"until 41318", expiring(41_318));
+    written(b"until 41347", expiring(41_347));
+    written(b"until 41348", expiring(41_348));
+    written(b"until 71752", expiring(71_752));
+    written(b"until 71753", expiring(71_753));
+}
+
+// 10/14: the last day before an expiry within a month, 41360, is known to its end.
+fn last_day() {
+    let s = expiring(41_360);
+    uts(b"within UTS", s, 41_359, 86_399_999_999);
+    uts(b"within UTS", s, 41_359, 86_400_000_000);
+    uts(b"within UTS", s, 41_360, 0);
+    tai(b"within TAI", s, 41_359, 86_399_999_999);
+    tai(b"within TAI", s, 41_359, 86_400_000_000);
+    utc(b"within UTC", s, 3_715_209_999_999);
+    utc(b"within UTC", s, 3_715_210_000_000);
+}
+
 fn main() {
     readings();
     let plus = text::read_text(b"6+5?").schedule;
@@ -243,4 +276,6 @@ fn main() {
     inserted(plus);
     deleted(minus);
     atomic(plus);
+    expiries();
+    last_day();
 }

@@ -1,6 +1,6 @@
 -- What is handed over of whether a list extends another, and what a caller may rest on it.
 -- Assumes nothing.
-use mathlib.Core.Path.{_≡_, refl, sym, ap, _∙_}
+use mathlib.Core.Path.{_≡_, refl, sym, ap, ap₂, _∙_}
 use mathlib.Core.Bool.{Bool, true, false}
 use mathlib.Core.Logic.{_↔_}
 use Prim.Native.Nat.{ℕ}
@@ -9,15 +9,15 @@ use Rattle.schedule.specs.declared.Schedule.{Schedule}
 use Rattle.schedule.specs.Schedule.{wellFormed}
 use Rattle.schedule.specs.Extends.{Extends, extends}
 use Rattle.schedule.proofs.Cases.{by-bool}
-use Rattle.schedule.proofs.Extension.{means, tests, fails}
+use Rattle.schedule.proofs.Extension.{found, found-well, means, tests, fails}
 use Rattle.clock.specs.Question.{given}
 use Rattle.clock.specs.Answers.{HandsValue}
 use Rattle.clock.proofs.Checks.{given-is}
 use Rattle.leap.specs.Calls.{yesOf, extension}
 
 -- what was asked of the schedules that words stand for
-pub asked-of : {l s l′ s′ : Schedule} {b : Bool} {v : ℕ} → l′ ≡ l → s′ ≡ s → v ≡ yesOf b → b ≡ extends l′ s′ → v ≡ yesOf (extends l s)
-asked-of p q e f = e ∙ (ap yesOf f ∙ rw (p, q))
+pub asked-of : (l s : Schedule) {l′ s′ : Schedule} {b : Bool} {v : ℕ} → wellFormed s ≡ true → l′ ≡ l → s′ ≡ s → v ≡ yesOf b → b ≡ found l′ s′ → v ≡ yesOf (extends l s)
+asked-of l s w p q e f = e ∙ ap yesOf (f ∙ (ap₂ found p q ∙ found-well l s w))
 
 module _ (longer shorter : Schedule) where
   pub longer-wrong : wellFormed longer ≡ false → HandsValue 0 (extension longer shorter) 11 0

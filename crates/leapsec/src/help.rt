@@ -130,9 +130,9 @@ fn print_compare() {
     write(
         b"leapsec compare LIST LIST\n\
 A line for each month, from 0 (January 1972) on, at which either list has a leap and their marks differ:\n\
-the month, the first list's mark and the second's. A mark is + or -, 0 for no leap, or ? at and after the\n\
-list's expiry. Then, if the expiries differ, = and both. Then how the lists stand to each other: same,\n\
-extends 1 (the first extends the second), extends 2 or contradict.\n\
+the month, the first list's mark and the second's. A mark is + or -, 0 for no leap, or ? from the list's\n\
+expiry on. Then, if the expiries differ, = and the MJD of each. Then how the lists stand to each other:\n\
+same, extends 1 (the first extends the second), extends 2 or contradict.\n\
 One list extends another if its leaps before the other's expiry are exactly the other's leaps, and it\n\
 expires no earlier; it then gives every answer that the other gives. Where a list does not read, the\n\
 number of its refusal is printed.\n\
@@ -140,7 +140,7 @@ number of its refusal is printed.\n\
 $ leapsec compare '6+6+5?' '6+12+5?'\n\
 12 + 0\n\
 18 ? +\n\
-= 17 23\n\
+= 41834 42017\n\
 contradict\n",
     );
 }

@@ -14,10 +14,13 @@ use Rattle.schedule.specs.declared.Sign.the-variants.{Positive, Negative}
 use Rattle.schedule.specs.declared.Leap.{Leap}
 use Rattle.schedule.specs.declared.Schedule.{Schedule}
 use Rattle.schedule.specs.declared.Reading.{Reading}
-use Rattle.schedule.specs.Schedule.{blankSchedule, leapsOf, gapsFit, wellFormed}
+use Rattle.schedule.specs.Schedule.{monthStart, blankSchedule, leapsOf, expiryMonth, roundedDown, leavesGap, wellFormed}
+use Rattle.calendar.specs.Calendar.{startsMonth}
 use Rattle.schedule.specs.Answers.{accepted, withLeap}
 use Rattle.schedule.proofs.Cases.{by-bool}
-use Rattle.schedule.proofs.Gaps.{fits-lt, fits-le, first, later, before-end, parts}
+use Rattle.schedule.proofs.Gaps.{fits-lt, fits-le, parts}
+use Rattle.schedule.proofs.Rounded.{gapsTo, first-to, later-to, before-to, rounded-gaps, rounded-well, rounds-itself, first-leaves-gap}
+use Rattle.calendar.proofs.Laws.{month-most}
 use Rattle.schedule.proofs.Adds.{adds, made-again}
 use Rattle.nybbles.specs.declared.code.Mark.{Mark}
 use Rattle.nybbles.specs.declared.code.Mark.the-variants.{Leaps, Expires}
@@ -54,7 +57,7 @@ module _ (s : Schedule) (month : ℕ) (m : month ≤ 2400) where
   leap-back k rest r room takes c g t e f q p l h =
       simp (e, q, le-leb (g + c .months) 999 f, le-leb month 2400 m, lt-ltb (s .count) 256 room) (takes (p + 1) l (omega arith))
 
-  end-back : (c : Code) (g t : ℕ) → c .mark ≡ Expires → g + c .months ≤ 999 → t + c .months ≡ month → Takes (at g t s) (c ∷ []) (accepted s month)
+  end-back : (c : Code) (g t : ℕ) → c .mark ≡ Expires → g + c .months ≤ 999 → t + c .months ≡ month → Takes (at g t s) (c ∷ []) (accepted s (monthStart month))
   unfolding readCodes fault after
   end-back c g t e f q p l h = simp (e, q, le-leb (g + c .months) 999 f, le-leb month 2400 m, le-ltb (p + 1) l (omega arith))
 
@@ -63,9 +66,9 @@ np-mark Positive = refl
 np-mark Negative = refl
 
 -- the codes of a list of leaps and of the expiry
-list-back : (ls : List Leap) (from expiry : ℕ) (s : Schedule) → gapsFit from ls expiry ≡ true → expiry ≤ 2400 → s .count + length ls ≤ 256
-    → Takes (at 0 from s) (map codeOf (codesFrom from ls expiry)) (accepted (adds s ls) expiry)
-unfolding codesFrom gapsFit adds
+list-back : (ls : List Leap) (from expiry : ℕ) (s : Schedule) → gapsTo from ls expiry ≡ true → expiry ≤ 2400 → s .count + length ls ≤ 256
+    → Takes (at 0 from s) (map codeOf (codesFrom from ls expiry)) (accepted (adds s ls) (monthStart expiry))
+unfolding codesFrom gapsTo adds
 list-back [] from expiry s f h room =
     let a : from < expiry = fits-lt from expiry f in
     let b : expiry - from ≤ 999 = fits-le from expiry f in
@@ -73,12 +76,12 @@ list-back [] from expiry s f h room =
     rw append-nil at (gap-back s expiry h Expires [] _ (end-back s expiry h) 0 from w (omega arith) (omega arith))
 list-back (l ∷ ls) from expiry s f h room =
     let m = l .month in
-    let a : from < m = fits-lt from m (first from l ls expiry f) in
-    let b : m - from ≤ 999 = fits-le from m (first from l ls expiry f) in
-    let d : m < expiry = before-end ls m expiry (later from l ls expiry f) in
+    let a : from < m = fits-lt from m (first-to from l ls expiry f) in
+    let b : m - from ≤ 999 = fits-le from m (first-to from l ls expiry f) in
+    let d : m < expiry = before-to ls m expiry (later-to from l ls expiry f) in
     let i : m ≤ 2400 = omega arith in
     let w = rw (np-mark (l .sign)) at (written-means (npOf (l .sign)) (m - from) (np-small (l .sign)) (omega arith)) in
-    let rest = list-back ls m expiry (withLeap s m (l .sign)) (later from l ls expiry f) h (omega arith) in
+    let rest = list-back ls m expiry (withLeap s m (l .sign)) (later-to from l ls expiry f) h (omega arith) in
     rw map-append
     (gap-back s m i (Leaps (l .sign)) _ _ (leap-back s m i (l .sign) (map codeOf (codesFrom m ls expiry)) _ (omega arith) rest) 0 from w (omega arith) (omega arith))
 
@@ -98,20 +101,24 @@ evened-plain : (cs : List ℕ) → map plain (map codeOf (evened cs)) ≡ map pl
 unfolding evened
 evened-plain cs = by-bool (eqb (length (spread cs) % 2) 0) (λ a. simp a) (λ a. simp a (padded-plain cs))
 
--- the nybble list of a well-formed schedule with 256 places is read as that schedule
-pub reads-back : (s : Schedule) → length (s .leaps) ≡ 256 → wellFormed s ≡ true → readNybbles (nybblesOf s) ≡ record { number = 0; place = 0; schedule = s }
+-- the nybble list of a well-formed schedule with 256 places is read as the schedule rounded down
+pub reads-back-rounded : (s : Schedule) → length (s .leaps) ≡ 256 → wellFormed s ≡ true → leavesGap s ≡ true → readNybbles (nybblesOf s) ≡ record { number = 0; place = 0; schedule = roundedDown s }
 unfolding nybblesOf spelling
-reads-back s full w =
+reads-back-rounded s full w g =
     let p = parts s w in
     let used = length-take-le (s .count) (s .leaps) (omega (arith, p .room)) in
-    let written = spelling-all s w in
+    let written = spelling-all s w g in
     let ns = spread (spelling s) in
     let cs = map plain (map codeOf (plainCodes s)) in
     let unpack : nybbles (pack ns) ≡ ns = unpacked ns (evened-even (plainCodes s)) (spread-all (spelling s) written) in
     let same : map plain (codesOf (nybbles (pack ns))) ≡ cs =
     ap (λ (ms : List ℕ). map plain (codesOf ms)) unpack ∙ (ap (map plain) (divided (spelling s) written) ∙ evened-plain (plainCodes s)) in
-    let taken : readPlain cs ≡ accepted (adds blankSchedule (leapsOf s)) (s .expiry) =
-    list-back (leapsOf s) 0 (s .expiry) blankSchedule (p .gaps) (p .end) (omega (arith, p .room)) 0 (length cs) (omega (arith, length-map (map codeOf (plainCodes s)) plain)) in
+    let taken : readPlain cs ≡ accepted (adds blankSchedule (leapsOf s)) (monthStart (expiryMonth s)) =
+    list-back (leapsOf s) 0 (expiryMonth s) blankSchedule (rounded-gaps s w g) (month-most (s .expiry)) (omega (arith, p .room)) 0 (length cs) (omega (arith, length-map (map codeOf (plainCodes s)) plain)) in
     let read = plain-read (pack ns) in
-    let alike : readPlain (map plain (codesOf (nybbles (pack ns)))) ≡ accepted (adds blankSchedule (leapsOf s)) (s .expiry) = ap readPlain same ∙ taken in
-    read .same (read .number ∙ ap (λ (r : Reading). r .number) alike) ∙ (alike ∙ made-again s full w)
+    let alike : readPlain (map plain (codesOf (nybbles (pack ns)))) ≡ accepted (adds blankSchedule (leapsOf s)) (monthStart (expiryMonth s)) = ap readPlain same ∙ taken in
+    read .same (read .number ∙ ap (λ (r : Reading). r .number) alike) ∙ (alike ∙ made-again (roundedDown s) full (rounded-well s w g))
+
+-- so every one that expires on the first of a month is read back as itself
+pub reads-back : (s : Schedule) → length (s .leaps) ≡ 256 → wellFormed s ≡ true → startsMonth (s .expiry) ≡ true → readNybbles (nybblesOf s) ≡ record { number = 0; place = 0; schedule = s }
+reads-back s full w m = reads-back-rounded s full w (first-leaves-gap s w m) ∙ ap (λ (t : Schedule). record { number = 0; place = 0; schedule = t }) (rounds-itself s m)

@@ -10,9 +10,10 @@ use lib.ListN.{length, replicate}
 use borrow.Author.Tests.{leb-true, lt-ltb, le-ltb, eqb-true, eqb-false}
 use Rattle.schedule.specs.declared.Leap.{Leap}
 use Rattle.schedule.specs.declared.Schedule.{Schedule}
-use Rattle.schedule.specs.Schedule.{leapsOf, gapsFit, wellFormed}
+use Rattle.schedule.specs.Schedule.{leapsOf, expiryMonth, leavesGap, wellFormed}
 use Rattle.schedule.proofs.Cases.{by-bool, by-cond}
-use Rattle.schedule.proofs.Gaps.{fits-lt, first, later, parts}
+use Rattle.schedule.proofs.Gaps.{fits-lt}
+use Rattle.schedule.proofs.Rounded.{gapsTo, first-to, later-to, rounded-gaps}
 use Rattle.nybbles.specs.declared.code.Code.{Code}
 use Rattle.nybbles.specs.Codes.{nybbles, single, wide, codesOf, npPositive, npExpiry}
 use Rattle.nybbles.specs.Write.{npOf, sixesCode, sixteen, times, sixes, gapCodes, codesFrom, plainCodes, spread, anySingle, padded, evened, pack, spelling, nybblesOf}
@@ -51,14 +52,14 @@ gap-all np gap h some =
     (λ b. let w = leb-true gap 16 b in more (long (omega arith) (omega arith)) none)
     (λ b. all-append (sixes-all 0 (gap / 12 * 2) (omega arith)) (more (long (omega arith) (omega arith)) none)))
 
-list-all : (ls : List Leap) (from expiry : ℕ) → gapsFit from ls expiry ≡ true → All IsCode (codesFrom from ls expiry)
-unfolding codesFrom gapsFit
+list-all : (ls : List Leap) (from expiry : ℕ) → gapsTo from ls expiry ≡ true → All IsCode (codesFrom from ls expiry)
+unfolding codesFrom gapsTo
 list-all [] from expiry f =
     let a : from < expiry = fits-lt from expiry f in
     gap-all npExpiry (expiry - from) (omega arith) (omega arith)
 list-all (l ∷ ls) from expiry f =
-    let a : from < l .month = fits-lt from (l .month) (first from l ls expiry f) in
-    all-append (gap-all (npOf (l .sign)) (l .month - from) (np-small (l .sign)) (omega arith)) (list-all ls (l .month) expiry (later from l ls expiry f))
+    let a : from < l .month = fits-lt from (l .month) (first-to from l ls expiry f) in
+    all-append (gap-all (npOf (l .sign)) (l .month - from) (np-small (l .sign)) (omega arith)) (list-all ls (l .month) expiry (later-to from l ls expiry f))
 
 padded-all : (cs : List ℕ) → All IsCode cs → All IsCode (padded cs)
 unfolding padded
@@ -73,10 +74,10 @@ padded-all (c ∷ cs) (more h a) =
     nine {c} (long l m) = simp (le-ltb c 16 (omega arith)) (long l m)
 
 -- the written codes of a schedule
-pub spelling-all : (s : Schedule) → wellFormed s ≡ true → All IsCode (spelling s)
+pub spelling-all : (s : Schedule) → wellFormed s ≡ true → leavesGap s ≡ true → All IsCode (spelling s)
 unfolding spelling evened
-spelling-all s w =
-    let a = list-all (leapsOf s) 0 (s .expiry) (parts s w .gaps) in
+spelling-all s w g =
+    let a = list-all (leapsOf s) 0 (expiryMonth s) (rounded-gaps s w g) in
     by-cond (All IsCode) (eqb (length (spread (plainCodes s)) % 2) 0) (λ e. a) (λ e. padded-all (plainCodes s) a)
 
 -- what a written code is read as
@@ -159,6 +160,6 @@ unfolding nybblesOf spelling
 nybble-count s = let e = evened-even (plainCodes s) in let l = length-pack (spread (spelling s)) in omega arith
 
 -- the nybbles of a well-formed schedule's list are those of its codes: none is lost
-pub no-nybble-lost : (s : Schedule) → wellFormed s ≡ true → nybbles (nybblesOf s) ≡ spread (spelling s)
+pub no-nybble-lost : (s : Schedule) → wellFormed s ≡ true → leavesGap s ≡ true → nybbles (nybblesOf s) ≡ spread (spelling s)
 unfolding nybblesOf spelling
-no-nybble-lost s w = unpacked (spread (spelling s)) (evened-even (plainCodes s)) (spread-all (spelling s) (spelling-all s w))
+no-nybble-lost s w g = unpacked (spread (spelling s)) (evened-even (plainCodes s)) (spread-all (spelling s) (spelling-all s w g))

@@ -10,9 +10,11 @@ use lib.Seq.{sets, sets-eq, length-sets, take-at}
 use Rattle.schedule.specs.declared.Sign.{Sign}
 use Rattle.schedule.specs.declared.Sign.the-variants.{Positive, Negative}
 use Rattle.schedule.specs.declared.Schedule.{Schedule}
-use Rattle.schedule.specs.Schedule.{noLeap, leapsOf, gapFits, gapsFit, wellFormed}
+use Rattle.schedule.specs.Schedule.{noLeap, leapsOf, gapFits, expiryMonth, leavesGap, wellFormed}
 use Rattle.schedule.proofs.Formed as formed
-use Rattle.schedule.proofs.Gaps.{fits-lt, fits-le, first, later, Parts, parts}
+use Rattle.schedule.proofs.Gaps.{fits-lt, fits-le, Parts, parts}
+use Rattle.schedule.proofs.Rounded.{gapsTo, first-to, later-to, last-to, rounded-gaps}
+use Rattle.calendar.proofs.Laws.{month-most}
 use Rattle.schedule.proofs.Stores.{sets-append}
 use Rattle.nybbles.specs.Codes.{npExpiry}
 use Rattle.nybbles.specs.Write.{npOf, gapCodes, codesFrom, plainCodes}
@@ -30,21 +32,24 @@ Asked at np gap = ((np < 4) × ((0 < gap) × (gap ≤ 999))) × (at + length (ga
 -- the gaps left, stored from here on, make the whole
 pub record Fills (s : Schedule) (codes₀ codes : List ℕ) (at last i : ℕ) : Type 0 where
   pub parted : Parts s
+  pub gaps : gapsTo 0 (leapsOf s) (expiryMonth s) ≡ true
+  pub end : expiryMonth s ≤ 2400
   pub full : length (s .leaps) ≡ 256
   pub inside : i ≤ s .count
-  pub left : gapsFit last (drop i (leapsOf s)) (s .expiry) ≡ true
-  pub count : at + length (codesFrom last (drop i (leapsOf s)) (s .expiry)) ≡ length (plainCodes s)
-  pub stored : sets codes at (codesFrom last (drop i (leapsOf s)) (s .expiry)) ≡ sets codes₀ 0 (plainCodes s)
+  pub left : gapsTo last (drop i (leapsOf s)) (expiryMonth s) ≡ true
+  pub count : at + length (codesFrom last (drop i (leapsOf s)) (expiryMonth s)) ≡ length (plainCodes s)
+  pub stored : sets codes at (codesFrom last (drop i (leapsOf s)) (expiryMonth s)) ≡ sets codes₀ 0 (plainCodes s)
 
-pub fills-start : (s : Schedule) (codes : List ℕ) → wellFormed s ≡ true → length (s .leaps) ≡ 256 → Fills s codes codes 0 0 0
-fills-start s codes w l = record { parted = parts s w; full = l; inside = omega arith; left = parts s w .gaps; count = omega arith; stored = refl }
+pub fills-start : (s : Schedule) (codes : List ℕ) → wellFormed s ≡ true → leavesGap s ≡ true → length (s .leaps) ≡ 256 → Fills s codes codes 0 0 0
+fills-start s codes w g l =
+    record { parted = parts s w; gaps = rounded-gaps s w g; end = month-most (s .expiry); full = l; inside = omega arith; left = rounded-gaps s w g; count = omega arith; stored = refl }
 
 module _ (s : Schedule) (codes₀ codes : List ℕ) (at last i : ℕ) (f : Fills s codes₀ codes at last i) where
   pub room : s .count ≤ 256
   room = f .parted .room
 
   all-short : length (plainCodes s) ≤ 2400
-  all-short = omega (arith, list-short (leapsOf s) 0 (s .expiry) (f .parted .gaps), f .parted .end)
+  all-short = omega (arith, list-short (leapsOf s) 0 (expiryMonth s) (f .gaps), f .end)
 
   used : length (leapsOf s) ≡ s .count
   used = formed.used s (f .full) i room
@@ -58,17 +63,17 @@ module _ (s : Schedule) (codes₀ codes : List ℕ) (at last i : ℕ) (f : Fills
     np = npOf (getD (s .leaps) i noLeap .sign)
 
     abbrev rest : List ℕ
-    rest = codesFrom month (drop (i + 1) (leapsOf s)) (s .expiry)
+    rest = codesFrom month (drop (i + 1) (leapsOf s)) (expiryMonth s)
 
-    next-codes : codesFrom last (drop i (leapsOf s)) (s .expiry) ≡ gapCodes np (month - last) ++ rest
+    next-codes : codesFrom last (drop i (leapsOf s)) (expiryMonth s) ≡ gapCodes np (month - last) ++ rest
     unfolding codesFrom
     next-codes = rw (formed.in-use s i (omega (arith, used)))
 
-    next-length : length (codesFrom last (drop i (leapsOf s)) (s .expiry)) ≡ length (gapCodes np (month - last)) + length rest
+    next-length : length (codesFrom last (drop i (leapsOf s)) (expiryMonth s)) ≡ length (gapCodes np (month - last)) + length rest
     next-length = ap length next-codes ∙ simp length-append
 
     pub next-fits : gapFits last month ≡ true
-    next-fits = first last _ (drop (i + 1) (leapsOf s)) (s .expiry) (rw (formed.in-use s i (omega (arith, used))) at (f .left))
+    next-fits = first-to last _ (drop (i + 1) (leapsOf s)) (expiryMonth s) (rw (formed.in-use s i (omega (arith, used))) at (f .left))
 
     pub next-asked : (k : ℕ) → k ≡ np → Asked at k (month - last)
     next-asked k e =
@@ -81,31 +86,33 @@ module _ (s : Schedule) (codes₀ codes : List ℕ) (at last i : ℕ) (f : Fills
         let c : gapCodes k (month - last) ≡ gapCodes np (month - last) = rw e refl in
         record {
           parted = f .parted;
+          gaps = f .gaps;
+          end = f .end;
           full = f .full;
           inside = omega arith;
-          left = later last _ (drop (i + 1) (leapsOf s)) (s .expiry) (rw (formed.in-use s i (omega (arith, used))) at (f .left));
+          left = later-to last _ (drop (i + 1) (leapsOf s)) (expiryMonth s) (rw (formed.in-use s i (omega (arith, used))) at (f .left));
           count = omega (arith, f .count, next-length, ap length c);
           stored = rw (p, q, c) (sym (sets-append (gapCodes np (month - last)) codes at rest) ∙ (ap (sets codes at) (sym next-codes) ∙ f .stored));
         }
 
   -- the expiry
-  module _ (h : s .count ≤ i) where
+  module _ (h : s .count ≤ i) (month : ℕ) (is : month ≡ expiryMonth s) where
     abbrev gap : ℕ
-    gap = s .expiry - last
+    gap = month - last
 
-    last-codes : codesFrom last (drop i (leapsOf s)) (s .expiry) ≡ gapCodes npExpiry gap
+    last-codes : codesFrom last (drop i (leapsOf s)) (expiryMonth s) ≡ gapCodes npExpiry gap
     unfolding codesFrom
     last-codes =
         let j : length (leapsOf s) ≤ i = omega (arith, used) in
-        rw (drop-of-length-le (leapsOf s) j)
+        rw (drop-of-length-le (leapsOf s) j, is)
 
-    pub last-fits : gapFits last (s .expiry) ≡ true
-    last-fits = sym (formed.gap-last s (f .full) i room h last (s .expiry)) ∙ f .left
+    pub last-fits : gapFits last month ≡ true
+    last-fits = rw is (sym (last-to s i last (expiryMonth s) (omega (arith, used))) ∙ f .left)
 
     pub last-asked : Asked at npExpiry gap
     last-asked =
-        let a : last < s .expiry = fits-lt last (s .expiry) last-fits in
-        ((omega arith, (omega arith, fits-le last (s .expiry) last-fits)), omega (arith, f .count, all-short, ap length last-codes))
+        let a : last < month = fits-lt last month last-fits in
+        ((omega arith, (omega arith, fits-le last month last-fits)), omega (arith, f .count, all-short, ap length last-codes))
 
     pub fills-end : length codes₀ ≡ 2400 → (exit : List ℕ) (r : ℕ) → r ≡ at + length (gapCodes npExpiry gap) → exit ≡ sets codes at (gapCodes npExpiry gap)
         → Holds exit r (plainCodes s)

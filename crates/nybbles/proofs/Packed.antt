@@ -11,7 +11,7 @@ use lib.ListN.{length, getD, take, drop, set}
 use lib.Seq.{sets, length-sets, getD-set-other, set-getD}
 use borrow.Author.Tests.{lt-ltb, le-ltb}
 use Rattle.schedule.specs.declared.Schedule.{Schedule}
-use Rattle.schedule.specs.Schedule.{wellFormed}
+use Rattle.schedule.specs.Schedule.{leavesGap, wellFormed}
 use Rattle.schedule.proofs.Cases.{by-bool}
 use Rattle.schedule.proofs.Stores.{sets-append}
 use Rattle.nybbles.specs.Codes.{nybbles}
@@ -139,9 +139,9 @@ module _ (s : Schedule) (codes : List ℕ) (n : ℕ) (h : Holds codes n (spellin
     pub bytes-fit : (out : List ℕ) → m / 2 ≤ length out → length (spread (take n codes)) ≤ length (nybbles out)
     bytes-fit out l = omega (arith, nybble-count s, ap length spread-held, count out)
 
-  pub bytes-put : wellFormed s ≡ true → (out exit : List ℕ) → nybbles exit ≡ sets (nybbles out) 0 (spread (take n codes)) → exit ≡ sets out 0 (nybblesOf s)
+  pub bytes-put : wellFormed s ≡ true → leavesGap s ≡ true → (out exit : List ℕ) → nybbles exit ≡ sets (nybbles out) 0 (spread (take n codes)) → exit ≡ sets out 0 (nybblesOf s)
   unfolding nybblesOf spelling
-  bytes-put w out exit e =
+  bytes-put w g out exit e =
       let ns = spread (spelling s) in
-      let target = put-pack ns out 0 0 refl (evened-even (plainCodes s)) (spread-all (spelling s) (spelling-all s w)) in
+      let target = put-pack ns out 0 0 refl (evened-even (plainCodes s)) (spread-all (spelling s) (spelling-all s w g)) in
       sym (packed exit) ∙ (ap pack (e ∙ (ap (sets (nybbles out) 0) spread-held ∙ sym target)) ∙ packed (sets out 0 (pack ns)))

@@ -3,7 +3,7 @@
 use mathlib.Core.Path.{_≡_, refl, sym, ap, _∙_}
 use mathlib.Core.Bool.{Bool, true, false}
 use mathlib.Core.List.{List}
-use Prim.Native.Nat.{ℕ, _+_, _*_, _≤_, _<_}
+use Prim.Native.Nat.{ℕ, _+_, _*_, _≤_, _<_, min}
 use native.Mathlib.Omega.{arith}
 use lib.ListN.{length, drop, set, replicate, drop-of-length-le}
 use lib.Dec.{leb}
@@ -15,6 +15,8 @@ use Rattle.schedule.specs.declared.Reading.{Reading}
 use Rattle.schedule.specs.Schedule.{maxGap, lastMonth, blankSchedule}
 use Rattle.schedule.specs.WordLayout.{wordOfSign}
 use Rattle.schedule.specs.Inner.{SoFar}
+use Rattle.calendar.specs.Calendar.{monthStart}
+use Rattle.calendar.proofs.Laws.{start-min}
 use Rattle.schedule.specs.Answers.{refusal, accepted, HandsReading}
 use Rattle.schedule.proofs.Cases.{by-bool}
 use Rattle.schedule.proofs.SoFar.{so-far-blank, so-far-leap, so-far-end}
@@ -194,11 +196,14 @@ module _ (bytes words : List ℕ) (at : ℕ) (p : Progress) (h : Reads bytes wor
               let is : readNybbles bytes ≡ refusal 6 (at + c .size) = last ∙ simp (lt-ltb _ _ l) in
               rw is o
 
-          pub accepts : length (nybbles bytes) ≤ at + c .size → HandsReading (readNybbles bytes) 0 (set (set words′ 512 (p′ .count)) 513 (p′ .total)) 0
+          pub accepts : length (nybbles bytes) ≤ at + c .size → (day : ℕ) → day ≡ monthStart (min (p′ .total) 2400)
+              → HandsReading (readNybbles bytes) 0 (set (set words′ 512 (p′ .count)) 513 day) 0
           unfolding st
-          accepts l =
-              let is : readNybbles bytes ≡ accepted (after st c .schedule) (p′ .total) = last ∙ simp (le-ltb _ _ l) in
-              rw is (so-far-end (after st c .schedule) (p′ .count) words′ (moved .kept) (p′ .total))
+          accepts l day d =
+              let is : readNybbles bytes ≡ accepted (after st c .schedule) (monthStart (p′ .total)) = last ∙ simp (le-ltb _ _ l) in
+              let t : p′ .total ≡ p .total + c .months = ap (λ (x : State). x .total) (moved .state) ∙ after-total st c in
+              let inside : p′ .total ≤ 2400 = omega (arith, passed .total-fits) in
+              rw (is, d ∙ start-min inside) (so-far-end (after st c .schedule) (p′ .count) words′ (moved .kept) (monthStart (p′ .total)))
 
           pub few-after : p′ .count ≤ 256
           few-after = moved .few (h .few)

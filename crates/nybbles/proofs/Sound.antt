@@ -10,7 +10,9 @@ use lib.Dec.{ltb, eqb}
 use lib.ListN.{length}
 use borrow.Author.Tests.{eqb-true, eqb-false}
 use Rattle.schedule.specs.declared.Sign.{Sign}
-use Rattle.schedule.specs.Schedule.{blankSchedule, wellFormed}
+use Rattle.schedule.specs.Schedule.{blankSchedule, leavesGap, wellFormed}
+use Rattle.calendar.specs.Calendar.{startsMonth}
+use Rattle.schedule.proofs.Rounded.{first-leaves-gap}
 use Rattle.schedule.proofs.Cases.{by-cond}
 use Rattle.schedule.proofs.Sound.{Formed, never, Sound, sound-leap, sound-end, blank-sound}
 use Rattle.nybbles.specs.declared.code.Mark.{Mark}
@@ -78,3 +80,11 @@ refused-blank bytes = read-formed bytes .blank
 -- an accepted list's schedule is well formed
 pub accepted-well-formed : (bytes : List ℕ) → readNybbles bytes .number ≡ 0 → wellFormed (readNybbles bytes .schedule) ≡ true
 accepted-well-formed bytes = read-formed bytes .formed
+
+-- every reader gives a first of a month
+pub accepted-first : (bytes : List ℕ) → readNybbles bytes .number ≡ 0 → startsMonth (readNybbles bytes .schedule .expiry) ≡ true
+accepted-first bytes = read-formed bytes .first
+
+-- so what was read can be written
+pub accepted-leaves-gap : (bytes : List ℕ) → readNybbles bytes .number ≡ 0 → leavesGap (readNybbles bytes .schedule) ≡ true
+accepted-leaves-gap bytes e = first-leaves-gap (readNybbles bytes .schedule) (accepted-well-formed bytes e) (accepted-first bytes e)

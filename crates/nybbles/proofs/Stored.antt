@@ -11,10 +11,10 @@ use lib.ListN.{length, set, length-append, length-replicate}
 use lib.Seq.{sets}
 use borrow.Author.Tests.{leb-true, leb-false, le-leb, lt-leb, eqb-true, eqb-false, eq-eqb, ne-eqb}
 use Rattle.schedule.specs.declared.Leap.{Leap}
-use Rattle.schedule.specs.Schedule.{gapsFit}
 use Rattle.schedule.proofs.Cases.{by-bool}
 use Rattle.schedule.proofs.Stores.{sets-append}
-use Rattle.schedule.proofs.Gaps.{fits-lt, first, later}
+use Rattle.schedule.proofs.Gaps.{fits-lt}
+use Rattle.schedule.proofs.Rounded.{gapsTo, first-to, later-to}
 use Rattle.nybbles.specs.Codes.{npNone}
 use Rattle.nybbles.specs.Write.{npOf, monthsCode, sixesCode, sixteen, times, sixes, years, gapCodes, codesFrom}
 
@@ -95,14 +95,14 @@ gap-short np gap some =
     (λ b. let l = leb-false gap 16 b in omega (arith, years-length np gap z l, sixes-length npNone (gap / 12 * 2))))
 
 -- nor a list
-pub list-short : (ls : List Leap) (from expiry : ℕ) → gapsFit from ls expiry ≡ true → from + length (codesFrom from ls expiry) ≤ expiry
-unfolding codesFrom gapsFit
+pub list-short : (ls : List Leap) (from expiry : ℕ) → gapsTo from ls expiry ≡ true → from + length (codesFrom from ls expiry) ≤ expiry
+unfolding codesFrom gapsTo
 list-short [] from expiry f =
     let a : from < expiry = fits-lt from expiry f in
     let b = gap-short 3 (expiry - from) (omega arith) in omega arith
 list-short (l ∷ ls) from expiry f =
     let m = l .month in
-    let a : from < m = fits-lt from m (first from l ls expiry f) in
+    let a : from < m = fits-lt from m (first-to from l ls expiry f) in
     let b = gap-short (npOf (l .sign)) (m - from) (omega arith) in
-    let i = list-short ls m expiry (later from l ls expiry f) in
+    let i = list-short ls m expiry (later-to from l ls expiry f) in
     simp length-append (omega arith)

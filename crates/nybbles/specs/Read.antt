@@ -8,7 +8,7 @@ use lib.ListN.{length}
 use Rattle.refusals.specs.Refusals.{endsEarly, badGap, pastLastMonth, tooManyLeaps, afterEnd}
 use Rattle.schedule.specs.declared.Schedule.{Schedule}
 use Rattle.schedule.specs.declared.Reading.{Reading}
-use Rattle.schedule.specs.Schedule.{maxLeaps, maxGap, lastMonth, blankSchedule}
+use Rattle.schedule.specs.Schedule.{maxLeaps, maxGap, lastMonth, monthStart, blankSchedule}
 use Rattle.schedule.specs.Answers.{refusal, accepted, withLeap}
 use Rattle.nybbles.specs.declared.code.Mark.{Mark}
 use Rattle.nybbles.specs.declared.code.Mark.the-variants.{Continues, Leaps, Expires}
@@ -56,7 +56,7 @@ after st c = marked (c .mark) (st .gap + c .months) (st .total + c .months) (st 
 
 -- after the expiry, at nybble `place` of `count`: a nybble there is refused, at its place
 abbrev pub atEnd : ℕ → ℕ → State → Reading
-atEnd count place st = cond (ltb place count) (refusal afterEnd place) (accepted (st .schedule) (st .total))
+atEnd count place st = cond (ltb place count) (refusal afterEnd place) (accepted (st .schedule) (monthStart (st .total)))
 
 -- what reading the codes from nybble `place` of `count` on answers; where a code is due and no nybble is left, `place` is `count`
 unfoldable pub readCodes : ℕ → ℕ → State → List Code → Reading

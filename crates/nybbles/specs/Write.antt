@@ -10,7 +10,7 @@ use Rattle.schedule.specs.declared.Sign.{Sign}
 use Rattle.schedule.specs.declared.Sign.the-variants.{Positive, Negative}
 use Rattle.schedule.specs.declared.Leap.{Leap}
 use Rattle.schedule.specs.declared.Schedule.{Schedule}
-use Rattle.schedule.specs.Schedule.{leapsOf}
+use Rattle.schedule.specs.Schedule.{leapsOf, expiryMonth}
 use Rattle.nybbles.specs.Codes.{npNone, npPositive, npNegative, npExpiry, inSixes, inMonths}
 
 -- NP of a leap
@@ -52,10 +52,10 @@ gapCodes np gap =
     cond (eqb (gap % 6) 0) (sixes np (gap / 6))
     (cond (leb gap 16) (monthsCode np gap ∷ []) (years np gap))
 
--- the gaps from a month on: to each leap, and from the last to the expiry
+-- the gaps from a month on: to each leap, and from the last to the month of the expiry
 unfoldable pub codesFrom : ℕ → List Leap → ℕ → List ℕ
-codesFrom from [] expiry = gapCodes npExpiry (expiry - from)
-codesFrom from (l ∷ ls) expiry = gapCodes (npOf (l .sign)) (l .month - from) ++ codesFrom (l .month) ls expiry
+codesFrom from [] end = gapCodes npExpiry (end - from)
+codesFrom from (l ∷ ls) end = gapCodes (npOf (l .sign)) (l .month - from) ++ codesFrom (l .month) ls end
 
 -- the nybbles of a written code, before others
 abbrev pub halves : ℕ → List ℕ → List ℕ
@@ -88,7 +88,7 @@ pack (a ∷ b ∷ ns) = (a * 16 + b) ∷ pack ns
 
 -- the codes of a schedule, before they are evened
 abbrev pub plainCodes : Schedule → List ℕ
-plainCodes s = codesFrom 0 (leapsOf s) (s .expiry)
+plainCodes s = codesFrom 0 (leapsOf s) (expiryMonth s)
 
 -- the codes of a schedule
 unfoldable pub spelling : Schedule → List ℕ

@@ -41,7 +41,7 @@ pub fn read_words(bytes: &[u8], out: &mut [u32; 514], place: &mut u64) -> u8
                 return schedule::hand_refusal(refusals::AFTER_END, at, out, place);
             }
             out[512] = p.count as u32;
-            out[513] = p.total;
+            out[513] = schedule::expiry_at(p.total);
             *place = 0;
             return 0;
         }
@@ -68,15 +68,22 @@ pub fn write_nybbles(s: Schedule, out: &mut [u8]) -> Writing
     ensures { λ r. ⌜ (r ≡ writing s (nybblesOf s) (length (now (out .entry)))) × (now (out .exit) ≡ written s (nybblesOf s) (now (out .entry))) ⌝ }
 {
     if schedule::is_well_formed(s) {
-        let mut codes = [0u8; spell::MAX_CODES];
-        let n = spell::spell(s, &mut codes);
-        let count = spell::nybble_count(&codes, n) / 2;
-        if count <= out.len() {
-            pack::put_codes(&codes, n, out);
-            return Writing { number: 0, count };
+        if schedule::leaves_gap(s) {
+            let end = schedule::expiry_month(s);
+            let mut codes = [0u8; spell::MAX_CODES];
+            let n = spell::spell(s, end, &mut codes);
+            let count = spell::nybble_count(&codes, n) / 2;
+            if count <= out.len() {
+                pack::put_codes(&codes, n, out);
+                return Writing { number: 0, count };
+            }
+            return Writing {
+                number: refusals::OUTPUT_SHORT,
+                count: 0,
+            };
         }
         return Writing {
-            number: refusals::OUTPUT_SHORT,
+            number: refusals::NO_GAP,
             count: 0,
         };
     }

@@ -14,7 +14,7 @@ ghost use mathlib.Core.List.{[]};
 ghost use Prim.Native.Nat.{_+_, _≤_, _<_};
 ghost use lib.ListN.{length, take};
 ghost use lib.Seq.{sets};
-ghost use Rattle.schedule.specs.Schedule.{wellFormed, maxGap};
+ghost use Rattle.schedule.specs.Schedule.{expiryMonth, leavesGap, wellFormed, maxGap};
 ghost use Rattle.nybbles.specs.Write.{npOf, pair, monthsCode, sixesCode, sixes, gapCodes, plainCodes, halves, spread, padded, spelling};
 ghost use Rattle.nybbles.specs.Inner.{maxCodes, Holds};
 
@@ -100,8 +100,8 @@ fn put_gap(codes: &mut Codes, at: usize, np: u8, gap: u32) -> usize
 }
 
 // Writes the codes of a schedule, not evened yet, and returns their number.
-fn put_gaps(s: Schedule, codes: &mut Codes) -> usize
-    requires { ⌜ (wellFormed s ≡ true) × (length (now codes) ≡ maxCodes) ⌝ }
+fn put_gaps(s: Schedule, end: u32, codes: &mut Codes) -> usize
+    requires { ⌜ ((wellFormed s ≡ true) × (leavesGap s ≡ true) × (end ≡ expiryMonth s)) × (length (now codes) ≡ maxCodes) ⌝ }
     ensures { λ r. ⌜ Holds (now (codes .exit)) r (plainCodes s) ⌝ }
 {
     let count = s.count;
@@ -116,7 +116,7 @@ fn put_gaps(s: Schedule, codes: &mut Codes) -> usize
         last = month;
         i += 1;
     }
-    put_gap(codes, at, NP_EXPIRY, s.expiry - last)
+    put_gap(codes, at, NP_EXPIRY, end - last)
 }
 
 // How many nybbles a code has.
@@ -157,11 +157,11 @@ fn pad(codes: &mut Codes, n: usize)
 }
 
 // Writes the codes of a schedule, and returns their number.
-pub(crate) fn spell(s: Schedule, codes: &mut Codes) -> usize
-    requires { ⌜ (wellFormed s ≡ true) × (length (now codes) ≡ maxCodes) ⌝ }
+pub(crate) fn spell(s: Schedule, end: u32, codes: &mut Codes) -> usize
+    requires { ⌜ ((wellFormed s ≡ true) × (leavesGap s ≡ true) × (end ≡ expiryMonth s)) × (length (now codes) ≡ maxCodes) ⌝ }
     ensures { λ r. ⌜ Holds (now (codes .exit)) r (spelling s) ⌝ }
 {
-    let n = put_gaps(s, codes);
+    let n = put_gaps(s, end, codes);
     if nybble_count(codes, n) % 2 == 0 {
         return n;
     }

@@ -26,7 +26,7 @@ tooManyLeaps = 5
 abbrev pub afterEnd : ℕ
 afterEnd = 6
 
--- 7: the output is shorter than the list, the comparison of two, or a line that a trace prints
+-- 7: the output is shorter than the list, the comparison of two, or what a line of a trace may print
 abbrev pub outputShort : ℕ
 outputShort = 7
 
@@ -49,6 +49,10 @@ notWellFormed = 11
 -- 16: two lists contradict each other
 abbrev pub contradiction : ℕ
 contradiction = 16
+
+-- 17: rounding the expiry down to its month leaves a gap of 0
+abbrev pub noGap : ℕ
+noGap = 17
 
 -- 20: no line of a trace
 abbrev pub noLine : ℕ

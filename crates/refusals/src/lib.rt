@@ -18,7 +18,7 @@ pub const TOO_MANY_LEAPS: u8 = 5;
 // Something after the end.
 pub const AFTER_END: u8 = 6;
 
-// The output is shorter than the list, the comparison of two, or a line that a trace prints.
+// The output is shorter than the list, the comparison of two, or what a line of a trace may print.
 pub const OUTPUT_SHORT: u8 = 7;
 
 // Before 1972.
@@ -35,6 +35,9 @@ pub const NOT_WELL_FORMED: u8 = 11;
 
 // Two lists contradict each other.
 pub const CONTRADICTION: u8 = 16;
+
+// Rounding the expiry down to its month leaves a gap of 0.
+pub const NO_GAP: u8 = 17;
 
 // No line of a trace.
 pub const NO_LINE: u8 = 20;

@@ -1,7 +1,7 @@
 -- If of any two lists that a trace uses one extends the other, no question gets two different times, however stores and resets fall.
 -- Assumes nothing.
 use Prim.Native.Nat.{ℕ, zero, suc}
-use mathlib.Core.Path.{_≡_, refl, sym, ap}
+use mathlib.Core.Path.{_≡_, refl, sym, ap, _∙_}
 use mathlib.Core.Bool.{true, false≢true}
 use mathlib.Core.List.{List, [], _∷_}
 use native.Mathlib.Omega.{arith}
@@ -9,8 +9,9 @@ use lib.Dec.{eqb}
 use lib.ListN.{getD}
 use borrow.Author.Tests.{eqb-true}
 use Rattle.schedule.specs.declared.Schedule.{Schedule}
-use Rattle.schedule.specs.Schedule.{wellFormed, blankSchedule, gapsFit}
+use Rattle.schedule.specs.Schedule.{wellFormed, blankSchedule}
 use Rattle.schedule.specs.WordLayout.{meant, wordsOf}
+use Rattle.schedule.proofs.Gaps.{blank-refused}
 use Rattle.schedule.proofs.Stand.{blank-stands, words-stand}
 use Rattle.format.proofs.Cases.{by-bool}
 use Rattle.text.specs.Read.{readText}
@@ -111,8 +112,7 @@ steady s ls agree i j day t d e u v l m x y =
     (a .same-day, b .same-day, same)
 
 blank-not : wellFormed (meant (wordsOf blankSchedule)) ≡ true → ⊥
-unfolding gapsFit
-blank-not w = false≢true (rw blank-stands at w)
+blank-not w = false≢true (sym blank-refused ∙ (rw blank-stands at w))
 
 -- the same of lines from the start, where both lists are blank: only the lists accepted in them count
 pub steady-from-start : (ls : List (List ℕ)) → Agreeing (Accepted ls) → (i j day t d e u v : ℕ)

@@ -10,7 +10,7 @@ use lib.Seq.{sets, sets-eq}
 use borrow.Author.Tests.{le-leb, lt-leb}
 use Rattle.schedule.specs.declared.Schedule.{Schedule}
 use Rattle.schedule.specs.declared.Writing.{Writing}
-use Rattle.schedule.specs.Schedule.{wellFormed}
+use Rattle.schedule.specs.Schedule.{leavesGap, wellFormed}
 use Rattle.schedule.specs.Answers.{unwritten, fitting, fitted, writing, written}
 
 module _ (bytes out : List ℕ) where
@@ -39,16 +39,20 @@ abbrev pub Answer : Schedule → List ℕ → List ℕ → Writing → List ℕ 
 Answer s bytes out r exit = (r ≡ writing s bytes (length out)) × (exit ≡ written s bytes out)
 
 module _ (s : Schedule) (bytes out : List ℕ) where
-  formed : wellFormed s ≡ true → {r : Writing} {exit : List ℕ} → Fits bytes out r exit → Answer s bytes out r exit
+  formed : wellFormed s ≡ true → leavesGap s ≡ true → {r : Writing} {exit : List ℕ} → Fits bytes out r exit → Answer s bytes out r exit
   unfolding writing written
-  formed w f = (rw w (f .0), rw w (f .1))
+  formed w g f = (rw (w, g) (f .0), rw (w, g) (f .1))
 
-  pub taken : wellFormed s ≡ true → (n : ℕ) → n ≡ length bytes → n ≤ length out → (exit : List ℕ) → exit ≡ sets out 0 bytes
+  pub taken : wellFormed s ≡ true → leavesGap s ≡ true → (n : ℕ) → n ≡ length bytes → n ≤ length out → (exit : List ℕ) → exit ≡ sets out 0 bytes
       → Answer s bytes out (record { number = 0; count = n }) exit
-  taken w n e h exit x = formed w (fits bytes out n e h exit x)
+  taken w g n e h exit x = formed w g (fits bytes out n e h exit x)
 
-  pub short : wellFormed s ≡ true → (n : ℕ) → n ≡ length bytes → length out < n → Answer s bytes out (record { number = 7; count = 0 }) out
-  short w n e h = formed w (no-room bytes out n e h)
+  pub short : wellFormed s ≡ true → leavesGap s ≡ true → (n : ℕ) → n ≡ length bytes → length out < n → Answer s bytes out (record { number = 7; count = 0 }) out
+  short w g n e h = formed w g (no-room bytes out n e h)
+
+  pub no-gap : wellFormed s ≡ true → leavesGap s ≡ false → Answer s bytes out (record { number = 17; count = 0 }) out
+  unfolding writing written
+  no-gap w g = (simp (w, g), simp (w, g))
 
   pub wrong : wellFormed s ≡ false → Answer s bytes out (record { number = 11; count = 0 }) out
   unfolding writing written

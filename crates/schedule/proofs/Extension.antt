@@ -1,7 +1,7 @@
 -- The test of extension: what each leap of the longer list makes of it, and that it means Extends.
 -- Assumes nothing.
 use mathlib.Core.Path.{_≡_, refl, sym, ap, ap₂, _∙_}
-use mathlib.Core.Bool.{Bool, true, false, false≢true, true≢false, and-eq-true-iff}
+use mathlib.Core.Bool.{Bool, true, false, _&&_, false≢true, true≢false, and-eq-true-iff}
 use mathlib.Core.List.{List, [], _∷_}
 use mathlib.Core.Logic.{_↔_}
 use Prim.Native.Nat.{ℕ, zero, suc, _+_, _≤_, _<_}
@@ -10,11 +10,12 @@ use native.Mathlib.Omega.{arith}
 use lib.Dec.{leb, eqb}
 use lib.ListN.{length, getD, drop, drop-of-length-le}
 use borrow.Author.Tests.{leb-true, le-leb, eqb-true, eqb-false, eq-eqb, ne-eqb}
+use Rattle.calendar.proofs.Laws.{start-lt}
 use Rattle.schedule.specs.declared.Sign.{Sign}
 use Rattle.schedule.specs.declared.Sign.the-variants.{Positive, Negative}
 use Rattle.schedule.specs.declared.Leap.{Leap}
 use Rattle.schedule.specs.declared.Schedule.{Schedule}
-use Rattle.schedule.specs.Schedule.{noLeap, leapsOf, isExpired, gapsFit, wellFormed}
+use Rattle.schedule.specs.Schedule.{monthStart, endDay, noLeap, leapsOf, isExpired, gapsFit, wellFormed}
 use Rattle.schedule.proofs.Cases.{by-bool}
 use Rattle.schedule.proofs.Gaps.{fits-lt, first, later, before-end, parts}
 use Rattle.schedule.proofs.Expired.{is-expired, not-expired}
@@ -37,9 +38,17 @@ none-left (suc j) (k ∷ ks) g = none-left j ks (le-of-suc-le-suc g) ∙ suc-eqb
 abbrev pub left : Schedule → Schedule → ℕ → ℕ → Bool
 left l s i j = sameLeaps (below (s .expiry) (drop i (leapsOf l))) (drop j (leapsOf s))
 
+-- what the code answers: of a list that expires within the calendar the test, and of another that nothing extends it
+abbrev pub found : Schedule → Schedule → Bool
+found l s = leb (s .expiry) endDay && extends l s
+
 -- where the expiry is no earlier, the whole test is that of all leaps
-pub decides : (l s : Schedule) (b : Bool) → s .expiry ≤ l .expiry → left l s 0 0 ≡ b → extends l s ≡ b
-decides l s b h e = simp (le-leb (s .expiry) (l .expiry) h) e
+pub decides : (l s : Schedule) (b : Bool) → s .expiry ≤ endDay → s .expiry ≤ l .expiry → left l s 0 0 ≡ b → found l s ≡ b
+decides l s b g h e = simp (le-leb (s .expiry) endDay g, le-leb (s .expiry) (l .expiry) h) e
+
+-- and of a well-formed schedule it is the test
+pub found-well : (l s : Schedule) → wellFormed s ≡ true → found l s ≡ extends l s
+found-well l s w = simp (le-leb (s .expiry) endDay (parts s w .end))
 
 module _ (l s : Schedule) (i j : ℕ) where
   -- at the end of the longer list the other must be at its end too
@@ -96,20 +105,20 @@ unfolding sameLeaps
 leaps-same [] = refl
 leaps-same (x ∷ xs) = rw (eq-eqb (x .month) (x .month) refl, sign-same (x .sign)) (leaps-same xs)
 
-all-below : (ls : List Leap) (from expiry : ℕ) → gapsFit from ls expiry ≡ true → below expiry ls ≡ ls
+pub all-below : (ls : List Leap) (from expiry : ℕ) → gapsFit from ls expiry ≡ true → below expiry ls ≡ ls
 unfolding below
 all-below [] from expiry f = refl
 all-below (l ∷ ls) from expiry f =
     let rest = later from l ls expiry f in
     rw (not-expired expiry (l .month) (before-end ls (l .month) expiry rest), all-below ls (l .month) expiry rest)
 
--- none of the leaps after a month lies below it
-pub below-none : (m from : ℕ) (ls : List Leap) (e : ℕ) → gapsFit from ls e ≡ true → m ≤ from → below m ls ≡ []
+-- none of the leaps after a month lies below its first day
+pub below-none : (day from : ℕ) (ls : List Leap) (e : ℕ) → gapsFit from ls e ≡ true → day ≤ monthStart from → below day ls ≡ []
 unfolding below
-below-none m from [] e h i = refl
-below-none m from (l ∷ ls) e h i =
-    let g = fits-lt from (l .month) (first from l ls e h) in
-    rw (is-expired m (l .month) (omega arith)) (below-none m (l .month) ls e (later from l ls e h) (omega arith))
+below-none day from [] e h i = refl
+below-none day from (l ∷ ls) e h i =
+    let g = start-lt (fits-lt from (l .month) (first from l ls e h)) in
+    rw (is-expired day (l .month) (omega arith)) (below-none day (l .month) ls e (later from l ls e h) (omega arith))
 
 -- equal lists extend each other
 pub extends-itself : (s : Schedule) → wellFormed s ≡ true → Extends s s

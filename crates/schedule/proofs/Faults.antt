@@ -12,7 +12,7 @@ use lib.ListN.{length, drop, getD}
 use lib.Seq.{drop-cons}
 use borrow.Author.Tests.{le-leb, lt-leb, lt-ltb, le-ltb, eq-eqb, ne-eqb}
 use Rattle.schedule.specs.declared.Schedule.{Schedule}
-use Rattle.schedule.specs.Schedule.{maxLeaps, maxGap, lastMonth, noLeap, leapsOf, gapFits, gapsFit, isUnused, allUnused, wellFormed}
+use Rattle.schedule.specs.Schedule.{maxLeaps, maxGap, endDay, noLeap, leapsOf, gapFits, expiryFits, gapsFit, isUnused, allUnused, wellFormed}
 use Rattle.schedule.specs.Inner.{greatMonth}
 use Rattle.schedule.proofs.Formed.{in-use, used, gap-last, unused-last}
 use Rattle.schedule.proofs.Gaps.{fits-lt, fits-le}
@@ -77,11 +77,11 @@ module _ (s : Schedule) (full : length (s .leaps) ≡ maxLeaps) (room : s .count
       }
 
   -- after the last leap
-  pub gapped-all : s .count ≤ i → (r : ℕ) → (last < greatMonth → eqb r 0 ≡ gapFits last (s .expiry)) → gapsFit 0 (leapsOf s) (s .expiry) ≡ eqb (faults + r) 0
+  pub gapped-all : s .count ≤ i → (r : ℕ) → eqb r 0 ≡ expiryFits last (s .expiry) → gapsFit 0 (leapsOf s) (s .expiry) ≡ eqb (faults + r) 0
   gapped-all h r e =
       p .gaps
-      ∙ ap (λ b. eqb faults 0 && b) (gap-last s full i room h last (s .expiry) ∙ sym (and-true (gapFits last (s .expiry))))
-      ∙ (one-more faults r (gapFits last (s .expiry)) true (λ z. e (below-half z)) ∙ and-true (eqb (faults + r) 0))
+      ∙ ap (λ b. eqb faults 0 && b) (gap-last s full i room h last (s .expiry) ∙ sym (and-true (expiryFits last (s .expiry))))
+      ∙ (one-more faults r (expiryFits last (s .expiry)) true (λ z. e) ∙ and-true (eqb (faults + r) 0))
 
 -- ---- the places that are not in use, up to place i
 pub record Rest (s : Schedule) (faults i : ℕ) : Type 0 where
@@ -90,9 +90,9 @@ pub record Rest (s : Schedule) (faults i : ℕ) : Type 0 where
   pub well : wellFormed s ≡ (eqb faults 0 && allUnused (drop i (s .leaps)))
 
 module _ (s : Schedule) (full : length (s .leaps) ≡ maxLeaps) (faults i : ℕ) where
-  pub rest-none : s .count ≤ maxLeaps → s .expiry ≤ lastMonth → i ≡ s .count → faults ≤ i + 1 → gapsFit 0 (leapsOf s) (s .expiry) ≡ eqb faults 0 → Rest s faults i
+  pub rest-none : s .count ≤ maxLeaps → s .expiry ≤ endDay → i ≡ s .count → faults ≤ i + 1 → gapsFit 0 (leapsOf s) (s .expiry) ≡ eqb faults 0 → Rest s faults i
   rest-none room end e few gaps =
-      record { place = omega arith; few = few; well = rw (e, le-leb (s .count) maxLeaps room, le-leb (s .expiry) lastMonth end, gaps) }
+      record { place = omega arith; few = few; well = rw (e, le-leb (s .count) maxLeaps room, le-leb (s .expiry) endDay end, gaps) }
 
   module _ (p : Rest s faults i) where
     pub rest-one : (r : ℕ) → i < maxLeaps → (eqb r 0 ≡ isUnused (getD (s .leaps) i noLeap)) × (r ≤ 1) → Rest s (faults + r) (i + 1)
@@ -113,5 +113,5 @@ module _ (s : Schedule) (full : length (s .leaps) ≡ maxLeaps) (faults i : ℕ)
 pub too-many : (s : Schedule) → maxLeaps < s .count → wellFormed s ≡ false
 too-many s h = rw (lt-leb (s .count) maxLeaps h)
 
-pub too-late : (s : Schedule) → s .count ≤ maxLeaps → lastMonth < s .expiry → wellFormed s ≡ false
-too-late s room h = rw (le-leb (s .count) maxLeaps room, lt-leb (s .expiry) lastMonth h)
+pub too-late : (s : Schedule) → s .count ≤ maxLeaps → endDay < s .expiry → wellFormed s ≡ false
+too-late s room h = rw (le-leb (s .count) maxLeaps room, lt-leb (s .expiry) endDay h)

@@ -9,7 +9,7 @@ use native.Mathlib.Omega.{arith}
 use lib.ListN.{length, getD, drop, length-take, drop-of-length-le}
 use lib.Seq.{drop-cons, length-take-le, getD-take}
 use Rattle.schedule.specs.declared.Schedule.{Schedule}
-use Rattle.schedule.specs.Schedule.{noLeap, leapsOf, gapFits, gapsFit, allUnused}
+use Rattle.schedule.specs.Schedule.{noLeap, leapsOf, expiryFits, gapsFit, allUnused}
 
 -- the leap at a place in use
 pub in-use : (s : Schedule) (i : ℕ) → i < length (leapsOf s) → drop i (leapsOf s) ≡ getD (s .leaps) i noLeap ∷ drop (i + 1) (leapsOf s)
@@ -23,7 +23,7 @@ module _ (s : Schedule) (full : length (s .leaps) ≡ 256) (i : ℕ) where
   pub used : s .count ≤ 256 → length (leapsOf s) ≡ s .count
   used c = length-take-le (s .count) (s .leaps) (omega arith)
 
-  pub gap-last : s .count ≤ 256 → s .count ≤ i → (last expiry : ℕ) → gapsFit last (drop i (leapsOf s)) expiry ≡ gapFits last expiry
+  pub gap-last : s .count ≤ 256 → s .count ≤ i → (last expiry : ℕ) → gapsFit last (drop i (leapsOf s)) expiry ≡ expiryFits last expiry
   unfolding gapsFit
   gap-last c h last expiry =
       let j : length (leapsOf s) ≤ i = omega (arith, used c) in

@@ -3,14 +3,16 @@
 use mathlib.Core.Path.{_≡_, refl}
 use mathlib.Core.Bool.{true, false, and-eq-true-iff, _&&_}
 use mathlib.Core.List.{List, [], _∷_}
-use Prim.Native.Nat.{ℕ, _-_, _≤_, _<_}
+use Prim.Native.Nat.{ℕ, _+_, _-_, _≤_, _<_}
 use native.Mathlib.Omega.{arith}
 use lib.ListN.{drop}
 use lib.Dec.{ltb, leb}
 use borrow.Author.Tests.{ltb-true, leb-true}
 use Rattle.schedule.specs.declared.Leap.{Leap}
 use Rattle.schedule.specs.declared.Schedule.{Schedule}
-use Rattle.schedule.specs.Schedule.{blankSchedule, leapsOf, gapFits, gapsFit, allUnused, wellFormed}
+use Rattle.calendar.specs.Calendar as calendar
+use Rattle.calendar.proofs.Laws.{start-lt}
+use Rattle.schedule.specs.Schedule.{monthStart, endDay, blankSchedule, leapsOf, gapFits, expiryFits, gapsFit, allUnused, wellFormed}
 
 -- a gap that fits
 pub fits-lt : (a b : ℕ) → gapFits a b ≡ true → a < b
@@ -18,6 +20,13 @@ fits-lt a b f = ltb-true a b (and-eq-true-iff (ltb a b) (leb (b - a) 999) .0 f .
 
 pub fits-le : (a b : ℕ) → gapFits a b ≡ true → b - a ≤ 999
 fits-le a b f = leb-true (b - a) 999 (and-eq-true-iff (ltb a b) (leb (b - a) 999) .0 f .1)
+
+-- an expiry that fits
+pub expiry-after : (from expiry : ℕ) → expiryFits from expiry ≡ true → monthStart from < expiry
+expiry-after from expiry f = ltb-true (monthStart from) expiry (and-eq-true-iff (ltb (monthStart from) expiry) (ltb expiry (monthStart (from + 1000))) .0 f .0)
+
+pub expiry-within : (from expiry : ℕ) → expiryFits from expiry ≡ true → expiry < monthStart (from + 1000)
+expiry-within from expiry f = ltb-true expiry (monthStart (from + 1000)) (and-eq-true-iff (ltb (monthStart from) expiry) (ltb expiry (monthStart (from + 1000))) .0 f .1)
 
 -- the gaps of a list with a first leap
 pub first : (from : ℕ) (l : Leap) (ls : List Leap) (expiry : ℕ) → gapsFit from (l ∷ ls) expiry ≡ true → gapFits from (l .month) ≡ true
@@ -28,29 +37,33 @@ pub later : (from : ℕ) (l : Leap) (ls : List Leap) (expiry : ℕ) → gapsFit 
 unfolding gapsFit
 later from l ls expiry f = and-eq-true-iff (gapFits from (l .month)) (gapsFit (l .month) ls expiry) .0 f .1
 
-pub before-end : (ls : List Leap) (from expiry : ℕ) → gapsFit from ls expiry ≡ true → from < expiry
+pub last-fits : (from expiry : ℕ) → gapsFit from [] expiry ≡ true → expiryFits from expiry ≡ true
 unfolding gapsFit
-before-end [] from expiry f = fits-lt from expiry f
+last-fits from expiry f = f
+
+pub before-end : (ls : List Leap) (from expiry : ℕ) → gapsFit from ls expiry ≡ true → monthStart from < expiry
+unfolding gapsFit
+before-end [] from expiry f = expiry-after from expiry f
 before-end (l ∷ ls) from expiry f =
     let a : from < l .month = fits-lt from (l .month) (first from l ls expiry f) in
-    let b : l .month < expiry = before-end ls (l .month) expiry (later from l ls expiry f) in
-    omega arith
+    let b : monthStart (l .month) < expiry = before-end ls (l .month) expiry (later from l ls expiry f) in
+    omega (arith, start-lt a)
 
 -- the parts of a well-formed schedule
 pub record Parts (s : Schedule) : Type 0 where
   pub room : s .count ≤ 256
-  pub end : s .expiry ≤ 2400
+  pub end : s .expiry ≤ endDay
   pub gaps : gapsFit 0 (leapsOf s) (s .expiry) ≡ true
   pub rest : allUnused (drop (s .count) (s .leaps)) ≡ true
 
 pub parts : (s : Schedule) → wellFormed s ≡ true → Parts s
 parts s w =
-    let w₁ = and-eq-true-iff (leb (s .count) 256 && leb (s .expiry) 2400 && gapsFit 0 (leapsOf s) (s .expiry)) (allUnused (drop (s .count) (s .leaps))) .0 w in
-    let w₂ = and-eq-true-iff (leb (s .count) 256 && leb (s .expiry) 2400) (gapsFit 0 (leapsOf s) (s .expiry)) .0 (w₁ .0) in
-    let w₃ = and-eq-true-iff (leb (s .count) 256) (leb (s .expiry) 2400) .0 (w₂ .0) in
+    let w₁ = and-eq-true-iff (leb (s .count) 256 && leb (s .expiry) endDay && gapsFit 0 (leapsOf s) (s .expiry)) (allUnused (drop (s .count) (s .leaps))) .0 w in
+    let w₂ = and-eq-true-iff (leb (s .count) 256 && leb (s .expiry) endDay) (gapsFit 0 (leapsOf s) (s .expiry)) .0 (w₁ .0) in
+    let w₃ = and-eq-true-iff (leb (s .count) 256) (leb (s .expiry) endDay) .0 (w₂ .0) in
     record { room = leb-true _ _ (w₃ .0); end = leb-true _ _ (w₃ .1); gaps = w₂ .1; rest = w₁ .1 }
 
 -- the blank schedule is not well formed
 pub blank-refused : wellFormed blankSchedule ≡ false
-unfolding gapsFit allUnused
+unfolding gapsFit calendar.monthStart
 blank-refused = refl

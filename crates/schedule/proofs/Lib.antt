@@ -4,6 +4,7 @@ pub mod Gaps
 pub mod Expired
 pub mod Formed
 pub mod WordLayout
+pub mod ByNumber
 pub mod Faults
 pub mod WordFaults
 pub mod Clear
@@ -16,4 +17,7 @@ pub mod Answers
 pub mod ByReading
 pub mod Extension
 pub mod Order
+pub mod Rounded
+pub mod InWords
+pub mod Worked
 pub mod Stores

@@ -1,8 +1,8 @@
 -- Schedules that are made leap by leap from the blank one: what holds of them on the way, and that they are well formed at the end.
 -- Assumes nothing.
 use mathlib.Core.Path.{_≡_, refl, sym, ap, _∙_}
-use mathlib.Core.Bool.{Bool, true, false, and-eq-true-iff, _&&_}
-use mathlib.Core.List.{List, [], _∷_, _++_}
+use mathlib.Core.Bool.{true, and-eq-true-iff, _&&_}
+use mathlib.Core.List.{List, [], _∷_, _++_, append-assoc, append-nil}
 use Prim.Native.Nat.{ℕ, suc, _+_, _≤_, _<_}
 use native.Mathlib.Numerals.{add-one}
 use native.Mathlib.Nat.{add-sub-cancel-left, lt-suc-self}
@@ -10,43 +10,52 @@ use native.Mathlib.Omega.{arith}
 use lib.ListN.{length, getD, drop, set, length-set}
 use lib.Seq.{drop-cons, take-suc-set, drop-set-lt}
 use borrow.Author.Tests.{lt-ltb, le-leb}
+use Rattle.calendar.proofs.Laws.{start-lt, start-to, starts-month}
+use Rattle.calendar.specs.Calendar.{startsMonth}
 use Rattle.schedule.specs.declared.Sign.{Sign}
 use Rattle.schedule.specs.declared.Leap.{Leap}
 use Rattle.schedule.specs.declared.Schedule.{Schedule}
 use Rattle.schedule.specs.declared.Reading.{Reading}
-use Rattle.schedule.specs.Schedule.{noLeap, blankSchedule, leapsOf, gapFits, gapsFit, isUnused, allUnused, wellFormed}
+use Rattle.schedule.specs.Schedule.{monthStart, endDay, noLeap, blankSchedule, leapsOf, gapFits, expiryFits, gapsFit, isUnused, allUnused, wellFormed}
 use Rattle.schedule.specs.Answers.{withLeap, refusal, accepted}
 
--- a reading that is accepted has place 0 and a well-formed schedule, and one that is refused the blank schedule; either has 256 places
+-- a reading that is accepted has place 0 and a well-formed schedule that expires on the first of a month, and one that is refused the blank schedule; either has 256 places
 pub record Formed (r : Reading) : Type 0 where
   pub full : length (r .schedule .leaps) ≡ 256
   pub formed : r .number ≡ 0 → wellFormed (r .schedule) ≡ true
+  pub first : r .number ≡ 0 → startsMonth (r .schedule .expiry) ≡ true
   pub placed : r .number ≡ 0 → r .place ≡ 0
   pub blank : (r .number ≡ 0 → ⊥) → r .schedule ≡ blankSchedule
 
 pub never : (n p : ℕ) → 0 < n → Formed (refusal n p)
-never n p h = record { full = refl; formed = λ e. absurd (omega arith); placed = λ e. absurd (omega arith); blank = λ z. refl }
-
-and-assoc : (a b c : Bool) → (a && b && c) ≡ (a && (b && c))
-and-assoc true b c = refl
-and-assoc false b c = refl
-
--- one leap more at the end
-gaps-snoc : (ls : List Leap) (from expiry : ℕ) (x : Leap) → gapsFit from (ls ++ (x ∷ [])) expiry ≡ (gapsFit from ls (x .month) && gapFits (x .month) expiry)
-unfolding gapsFit
-gaps-snoc [] from expiry x = refl
-gaps-snoc (l ∷ ls) from expiry x = rw (gaps-snoc ls (l .month) expiry x) (sym (and-assoc (gapFits from (l .month)) _ _))
+never n p h = record { full = refl; formed = λ e. absurd (omega arith); first = λ e. absurd (omega arith); placed = λ e. absurd (omega arith); blank = λ z. refl }
 
 -- what holds of the schedule so far: its leaps end at the month `total`
 pub record Sound (total : ℕ) (s : Schedule) : Type 0 where
   full : length (s .leaps) ≡ 256
   room : s .count ≤ 256
-  gaps : (expiry : ℕ) → gapsFit 0 (leapsOf s) expiry ≡ gapFits total expiry
+  gaps : (more : List Leap) (expiry : ℕ) → gapsFit 0 (leapsOf s ++ more) expiry ≡ gapsFit total more expiry
   rest : allUnused (drop (s .count) (s .leaps)) ≡ true
 
 -- a gap of 1 to 999 fits
 fits : (total gap : ℕ) → 0 < gap → gap ≤ 999 → gapFits total (total + gap) ≡ true
 fits total gap p q = simp (lt-ltb total (total + gap) (omega arith), add-sub-cancel-left total gap, le-leb gap 999 q)
+
+-- an expiry on the first day of a month 1 to 999 after the last leap's fits, and lies within the calendar
+expiry-fits : (total gap : ℕ) → 0 < gap → gap ≤ 999 → expiryFits total (monthStart (total + gap)) ≡ true
+expiry-fits total gap p q =
+    let a : total < total + gap = omega arith in
+    let b : total + gap < total + 1000 = omega arith in
+    simp (lt-ltb (monthStart total) (monthStart (total + gap)) (start-lt a), lt-ltb (monthStart (total + gap)) (monthStart (total + 1000)) (start-lt b))
+
+-- one leap that fits, and what is left
+next-fits : (from : ℕ) (l : Leap) (ls : List Leap) (expiry : ℕ) → gapFits from (l .month) ≡ true → gapsFit from (l ∷ ls) expiry ≡ gapsFit (l .month) ls expiry
+unfolding gapsFit
+next-fits from l ls expiry f = simp f
+
+last-fits : (from expiry : ℕ) → gapsFit from [] expiry ≡ expiryFits from expiry
+unfolding gapsFit
+last-fits from expiry = refl
 
 module _ (s : Schedule) (inside : s .count < length (s .leaps)) (m : ℕ) (k : Sign) where
   pub leaps-with : leapsOf (withLeap s m k) ≡ leapsOf s ++ (record { month = m; sign = k } ∷ [])
@@ -65,20 +74,27 @@ sound-leap total gap s k p q h d =
     record {
       full = length-set (s .leaps) (s .count) _ ∙ d .full;
       room = omega arith;
-      gaps = λ e. ap (λ (l : List Leap). gapsFit 0 l e) (leaps-with s inside (total + gap) k)
-          ∙ (gaps-snoc (leapsOf s) 0 e (record { month = total + gap; sign = k }) ∙ simp (d .gaps (total + gap), fits total gap p q));
+      gaps = λ more e.
+          let l : Leap = record { month = total + gap; sign = k } in
+          ap (λ (ls : List Leap). gapsFit 0 ls e) (ap (λ (ls : List Leap). ls ++ more) (leaps-with s inside (total + gap) k) ∙ append-assoc (leapsOf s) (l ∷ []) more)
+          ∙ (d .gaps (l ∷ more) e ∙ next-fits total l more e (fits total gap p q));
       rest = rest-with s inside (total + gap) k (d .rest);
     }
 
-pub sound-end : (total gap : ℕ) (s : Schedule) → 0 < gap → gap ≤ 999 → total + gap ≤ 2400 → Sound total s → Formed (accepted s (total + gap))
+pub sound-end : (total gap : ℕ) (s : Schedule) → 0 < gap → gap ≤ 999 → total + gap ≤ 2400 → Sound total s → Formed (accepted s (monthStart (total + gap)))
 sound-end total gap s p q h d =
     record {
       full = d .full;
-      formed = λ e. simp (le-leb (s .count) 256 (d .room), le-leb (total + gap) 2400 h, d .gaps (total + gap), fits total gap p q, d .rest);
+      formed = λ e.
+          let z : gapsFit 0 (leapsOf s) (monthStart (total + gap)) ≡ true =
+          ap (λ (ls : List Leap). gapsFit 0 ls (monthStart (total + gap))) (sym (append-nil (leapsOf s)))
+          ∙ (d .gaps [] (monthStart (total + gap)) ∙ (last-fits total (monthStart (total + gap)) ∙ expiry-fits total gap p q)) in
+          simp (le-leb (s .count) 256 (d .room), le-leb (monthStart (total + gap)) endDay (start-to h), z, d .rest);
+      first = λ e. starts-month h;
       placed = λ e. refl;
       blank = λ z. absurd (z refl);
     }
 
 pub blank-sound : Sound 0 blankSchedule
 unfolding gapsFit allUnused
-blank-sound = record { full = refl; room = omega arith; gaps = λ e. refl; rest = refl }
+blank-sound = record { full = refl; room = omega arith; gaps = λ more e. refl; rest = refl }

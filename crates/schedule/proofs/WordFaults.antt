@@ -8,7 +8,7 @@ use native.Mathlib.Omega.{arith}
 use lib.Dec.{eqb, ltb}
 use lib.ListN.{length, drop}
 use borrow.Author.Tests.{le-leb}
-use Rattle.schedule.specs.Schedule.{maxLeaps, lastMonth, leapsOf, gapFits, gapsFit, allUnused, wellFormed}
+use Rattle.schedule.specs.Schedule.{maxLeaps, endDay, leapsOf, gapFits, expiryFits, gapsFit, allUnused, wellFormed}
 use Rattle.schedule.specs.WordLayout.{monthWord, signWord, signsFit, countWord, expiryWord, leapsAt, laidOut, meant}
 use Rattle.schedule.specs.Inner.{greatMonth}
 use Rattle.schedule.proofs.Faults.{eqb-sum, Gapped, gapped-none, gapped-one, gapped-all}
@@ -38,7 +38,7 @@ module _ (words : List ℕ) (room : countWord words ≤ maxLeaps) (signs faults 
       }
 
   -- after the last leap
-  pub gapped-at-all : countWord words ≤ i → (r : ℕ) → (last < greatMonth → eqb r 0 ≡ gapFits last (expiryWord words))
+  pub gapped-at-all : countWord words ≤ i → (r : ℕ) → eqb r 0 ≡ expiryFits last (expiryWord words)
       → eqb (signs + (faults + r)) 0 ≡ (signsFit words (countWord words) && gapsFit 0 (leapsOf (laidOut words)) (expiryWord words))
   gapped-at-all h r e =
       let place : i ≡ countWord words = omega (arith, p .gapped .place) in
@@ -46,12 +46,12 @@ module _ (words : List ℕ) (room : countWord words ≤ maxLeaps) (signs faults 
       ∙ ap₂ (λ x y. x && y) (sym (rw place at (p .signed))) (sym (gapped-all (laidOut words) (full words) room faults last i (p .gapped) h r e))
 
 -- words with few leaps and an early expiry stand for a well-formed schedule exactly when the leaps in use fit and the rest is unused
-pub list-by : (words : List ℕ) → countWord words ≤ maxLeaps → expiryWord words ≤ lastMonth → (fit rest : Bool)
+pub list-by : (words : List ℕ) → countWord words ≤ maxLeaps → expiryWord words ≤ endDay → (fit rest : Bool)
     → fit ≡ (signsFit words (countWord words) && gapsFit 0 (leapsOf (laidOut words)) (expiryWord words)) → rest ≡ allUnused (drop (countWord words) (leapsAt words maxLeaps))
     → (fit && rest) ≡ wellFormed (meant words)
 list-by words room end fit rest e f =
     let signs = signsFit words (countWord words) in
     let gaps = gapsFit 0 (leapsOf (laidOut words)) (expiryWord words) in
     let unused = allUnused (drop (countWord words) (leapsAt words maxLeaps)) in
-    let laid : wellFormed (laidOut words) ≡ (gaps && unused) = rw (le-leb (countWord words) maxLeaps room, le-leb (expiryWord words) lastMonth end) in
+    let laid : wellFormed (laidOut words) ≡ (gaps && unused) = rw (le-leb (countWord words) maxLeaps room, le-leb (expiryWord words) endDay end) in
     ap₂ (λ x y. x && y) e f ∙ (and-assoc signs gaps unused ∙ (ap (λ b. signs && b) (sym laid) ∙ well-meant words))

@@ -7,6 +7,7 @@ use mathlib.Core.List.{List, [], _∷_, _++_}
 use Prim.Native.Nat.{ℕ, zero, suc, _+_, _-_, _≤_, _<_}
 use native.Mathlib.Nat.{not-suc-le-zero, le-of-suc-le-suc, eq-or-lt-of-le}
 use native.Mathlib.Numerals.{add-one}
+use native.Mathlib.Decide.{decLt}
 use native.Mathlib.Omega.{arith}
 use lib.Dec.{ltb, eqb}
 use lib.ListN.{length, getD, drop, length-append}
@@ -14,15 +15,20 @@ use lib.Seq.{getD-take, getD-drop, length-take-le, take-at, getD-at}
 use borrow.Author.Tests.{ltb-true, ltb-false, lt-ltb, eqb-true}
 use Rattle.schedule.specs.declared.Leap.{Leap}
 use Rattle.schedule.specs.declared.Schedule.{Schedule}
-use Rattle.schedule.specs.Schedule.{maxLeaps, noLeap, blankSchedule, leapsOf, gapsFit, isPositive, isUnused, allUnused, wellFormed}
+use Rattle.schedule.specs.Schedule.{monthStart, endDay, maxLeaps, noLeap, blankSchedule, leapsOf, gapsFit, isPositive, isUnused, allUnused, wellFormed}
 use Rattle.schedule.specs.WordLayout.{monthWord, signWord, signOf, countWord, standsForLeap, standForLeaps, signsFit, leapAt, leapsAt, laidOut, meant}
+use Rattle.calendar.proofs.Laws.{start-last, start-lt}
 use Rattle.schedule.proofs.Cases.{by-bool}
 use Rattle.schedule.proofs.Gaps.{later, before-end, parts, blank-refused}
 
+-- a month that starts within the calendar
+pub within : (m : ℕ) → monthStart m ≤ endDay → m ≤ 2400
+within m h = elim (decLt 2400 m) [ yes l ↦ absurd (omega (arith, start-last, start-lt l)) | no l ↦ omega arith ]
+
 -- months in use, and not in use
-used-month : (ls : List Leap) (from expiry : ℕ) → gapsFit from ls expiry ≡ true → expiry ≤ 2400 → (i : ℕ) → i < length ls → getD ls i noLeap .month ≤ 2400
+used-month : (ls : List Leap) (from expiry : ℕ) → gapsFit from ls expiry ≡ true → expiry ≤ endDay → (i : ℕ) → i < length ls → getD ls i noLeap .month ≤ 2400
 used-month [] from expiry f e i h = absurd (not-suc-le-zero h)
-used-month (l ∷ ls) from expiry f e zero h = omega (arith, before-end ls (l .month) expiry (later from l ls expiry f))
+used-month (l ∷ ls) from expiry f e zero h = within (l .month) (omega (arith, before-end ls (l .month) expiry (later from l ls expiry f)))
 used-month (l ∷ ls) from expiry f e (suc i) h = used-month ls (l .month) expiry (later from l ls expiry f) e i (le-of-suc-le-suc h)
 
 unused-month : (ls : List Leap) → allUnused ls ≡ true → (i : ℕ) → getD ls i noLeap .month ≡ 0

@@ -2,16 +2,16 @@
 -- Assumes nothing: these are definitions.
 use Prim.Native.Nat.{ℕ, _+_}
 use mathlib.Core.Path.{_≡_}
-use mathlib.Core.Bool.{cond}
+use mathlib.Core.Bool.{_&&_, cond}
 use mathlib.Core.List.{List, _++_}
 use lib.Dec.{leb, eqb}
 use lib.ListN.{length, drop, set}
-use Rattle.refusals.specs.Refusals.{outputShort, notWellFormed}
+use Rattle.refusals.specs.Refusals.{outputShort, notWellFormed, noGap}
 use Rattle.schedule.specs.declared.Sign.{Sign}
 use Rattle.schedule.specs.declared.Schedule.{Schedule}
 use Rattle.schedule.specs.declared.Reading.{Reading}
 use Rattle.schedule.specs.declared.Writing.{Writing}
-use Rattle.schedule.specs.Schedule.{blankSchedule, wellFormed}
+use Rattle.schedule.specs.Schedule.{blankSchedule, leavesGap, wellFormed}
 use Rattle.schedule.specs.WordLayout.{wordsOf}
 
 -- a reader that refuses returns the number, the place and the blank schedule
@@ -48,10 +48,10 @@ fitting bytes room = cond (leb (length bytes) room) (record { number = 0; count 
 unfoldable pub fitted : List ℕ → List ℕ → List ℕ
 fitted bytes out = cond (leb (length bytes) (length out)) (bytes ++ drop (length bytes) out) out
 
--- what a writer answers whose list of a schedule is `bytes`: refusal 11, then 7, else the count of bytes
+-- what a writer answers whose list of a schedule is `bytes`: refusal 11, then 17, then 7, else the count of bytes
 unfoldable pub writing : Schedule → List ℕ → ℕ → Writing
-writing s bytes room = cond (wellFormed s) (fitting bytes room) (unwritten notWellFormed)
+writing s bytes room = cond (wellFormed s) (cond (leavesGap s) (fitting bytes room) (unwritten noGap)) (unwritten notWellFormed)
 
 -- what the output then holds: the list and, beyond it, what it held; what it held where the writer refuses
 unfoldable pub written : Schedule → List ℕ → List ℕ → List ℕ
-written s bytes out = cond (wellFormed s) (fitted bytes out) out
+written s bytes out = cond (wellFormed s && leavesGap s) (fitted bytes out) out

@@ -12,13 +12,13 @@ use Rattle.schedule.specs.declared.Leap.{Leap}
 use Rattle.schedule.specs.declared.Schedule.{Schedule}
 use Rattle.schedule.specs.Schedule.{leapsOf, isExpired}
 
--- the leaps below an expiry
+-- the leaps below an expiry: in months that start before that day
 unfoldable pub below : ℕ → List Leap → List Leap
 below expiry [] = []
 below expiry (l ∷ ls) = cond (isExpired expiry (l .month)) (below expiry ls) (l ∷ below expiry ls)
 
--- "extends": the longer list's leaps below the shorter one's expiry month are the shorter one's leaps, all of them, equal in month and sign,
--- and its own expiry is no earlier
+-- "extends": the longer list's leaps in months that start before the shorter one's expiry day are the shorter one's leaps, all of them, equal in
+-- month and sign, and its own expiry is no earlier
 pub record Extends (longer shorter : Schedule) : Type 0 where
   pub same : below (shorter .expiry) (leapsOf longer) ≡ leapsOf shorter
   pub later : shorter .expiry ≤ longer .expiry

@@ -1,4 +1,4 @@
--- The C struct leap_schedule as 514 words: the month and the sign of each of 256 leaps in turn, then the count, then the expiry.
+-- The C struct leap_schedule as 514 words: the month and the sign of each of 256 leaps in turn, then the count, then the expiry day.
 -- Assumes nothing: these are definitions.
 use Prim.Native.Nat.{ℕ, zero, suc, _+_, _*_}
 use mathlib.Core.Bool.{Bool, true, _&&_, cond}

@@ -4,12 +4,15 @@ ghost use mathlib.Core.Bool.{_&&_};
 ghost use Prim.Native.Nat.{_≤_, _<_};
 ghost use lib.Dec.{eqb, ltb};
 ghost use lib.ListN.{drop};
-ghost use Rattle.schedule.specs.Schedule.{maxLeaps, leapsOf, gapFits, gapsFit, isUnused, allUnused};
+ghost use Rattle.schedule.specs.Schedule.{maxLeaps, endDay, leapsOf, gapFits, expiryFits, gapsFit, isUnused, allUnused};
 ghost use Rattle.schedule.specs.WordLayout.{signsFit, countWord, expiryWord, leapsAt, laidOut};
 ghost use Rattle.schedule.specs.Inner.{greatMonth};
+use crate::FIRST_DAY;
+use crate::LAST_MONTH;
 use crate::Leap;
 use crate::MAX_GAP;
 use crate::Sign;
+use crate::wide;
 
 // 0 if the gap from a month to another is 1 to 999, else 1. One comparison sees both ends: a gap below 1 wraps round to a great number. From a
 // month as great as no list has, a gap may wrap too.
@@ -21,6 +24,34 @@ pub(crate) fn misfit(from: u32, to: u32) -> u32
         return 0;
     }
     1
+}
+
+// 0 if an expiry day within the calendar is later than the first day of a month, and at most 999 months after it by month number; else 1. Where
+// it lies between bounds of the months' starts, as in most lists, no start is computed: the last leap's month starts less than two months after
+// its number's share of the days, which are 487 to 16 months from day 41301 on, and 1000 months have 28,000 days or more.
+pub(crate) fn expiry_misfit(from: u32, expiry: u32) -> u32
+    requires { ⌜ expiry ≤ endDay ⌝ }
+    ensures { λ r. ⌜ (eqb r 0 ≡ expiryFits from expiry) × (r ≤ 1) ⌝ }
+{
+    if LAST_MONTH <= from {
+        return 1;
+    }
+    if expiry <= FIRST_DAY {
+        return 1;
+    }
+    if 487 * (from + 2) + 16 * 41_301 <= 16 * expiry {
+        if expiry < FIRST_DAY + 28 * (from + 1000) {
+            return 0;
+        }
+    }
+    let month = wide(calendar::latest_month(expiry as u64));
+    if month == from {
+        if calendar::is_first(expiry as u64) {
+            return 1;
+        }
+        return 0;
+    }
+    misfit(from, month)
 }
 
 // 0 if a place holds month 0 and a positive sign, else 1.
@@ -49,9 +80,9 @@ fn unsigned(negative: u32) -> u32
     1
 }
 
-// Whether the gaps are 1 to 999 months, from month 0 over the leaps in use to the expiry, and the sign words 0 or 1.
+// Whether the gaps are 1 to 999 months, from month 0 over the leaps in use, the expiry fits the last, and the sign words are 0 or 1.
 pub(crate) fn leaps_fit(words: &[u32; 514]) -> bool
-    requires { ⌜ countWord (now words) ≤ maxLeaps ⌝ }
+    requires { ⌜ (countWord (now words) ≤ maxLeaps) × (expiryWord (now words) ≤ endDay) ⌝ }
     ensures { λ r. ⌜ r ≡ (signsFit (now (words .entry)) (countWord (now (words .entry))) && gapsFit 0 (leapsOf (laidOut (now (words .entry)))) (expiryWord (now (words .entry)))) ⌝ }
 {
     let count = words[512];
@@ -66,7 +97,7 @@ pub(crate) fn leaps_fit(words: &[u32; 514]) -> bool
         last = at;
         i += 1;
     }
-    faults += misfit(last, words[513]);
+    faults += expiry_misfit(last, words[513]);
     signs + faults == 0
 }
 

@@ -1,10 +1,10 @@
 // A schedule of leap seconds, by value and as the words of the C struct, and what readers and writers of it answer.
 ghost use mathlib.Core.Path.{_≡_};
 ghost use mathlib.Core.Bool.{true, _&&_};
-ghost use Prim.Native.Nat.{_≤_};
-ghost use lib.Dec.{ltb};
+ghost use Prim.Native.Nat.{_≤_, min};
+ghost use lib.Dec.{ltb, leb};
 ghost use lib.ListN.{length};
-ghost use Rattle.schedule.specs.Schedule.{maxLeaps, blankSchedule, leapsOf, isExpired, wellFormed};
+ghost use Rattle.schedule.specs.Schedule.{maxLeaps, lastMonth, endDay, monthStart, blankSchedule, leapsOf, isExpired, lastLeap, expiryMonth, leavesGap, wellFormed};
 ghost use Rattle.schedule.specs.Extends.{sameSign, sameLeap, extends};
 ghost use Rattle.schedule.specs.WordLayout.{standForLeaps, leapBy, laidOut, meant, wordOfSign};
 ghost use Rattle.schedule.specs.Answers.{refusal, HandsReading};
@@ -17,8 +17,14 @@ pub const MAX_LEAPS: usize = 256;
 // A gap is at most 999 months.
 pub const MAX_GAP: u32 = 999;
 
-// Month numbers run to 2400; an expiry is no later.
+// Month numbers run to 2400.
 pub const LAST_MONTH: u32 = calendar::LAST_MONTH as u32;
+
+// Month 0 starts on this day; an expiry is later.
+const FIRST_DAY: u32 = calendar::FIRST_DAY as u32;
+
+// Month 2400 starts on this day; an expiry is no later.
+pub const END_DAY: u32 = calendar::END_DAY as u32;
 
 pub enum Sign {
     Positive,
@@ -31,7 +37,7 @@ pub struct Leap {
     pub sign: Sign,
 }
 
-// The first `count` of `leaps` are in use; the others hold month 0 and a positive sign. From month `expiry` on nothing is known.
+// The first `count` of `leaps` are in use; the others hold month 0 and a positive sign. From day `expiry` on nothing is known.
 pub struct Schedule {
     pub leaps: [Leap; 256],
     pub count: usize,
@@ -51,7 +57,7 @@ pub struct Writing {
     pub count: usize,
 }
 
-// The blank schedule: no leaps and expiry 0. It is not well formed.
+// The blank schedule: no leaps and expiry day 0. It is not well formed.
 pub fn blank() -> Schedule
     ensures { λ r. ⌜ r ≡ blankSchedule ⌝ }
 {
@@ -183,7 +189,7 @@ pub fn is_well_formed(s: Schedule) -> bool
     if MAX_LEAPS < count {
         return false;
     }
-    if LAST_MONTH < expiry {
+    if END_DAY < expiry {
         return false;
     }
     let mut faults: u32 = 0;
@@ -195,7 +201,7 @@ pub fn is_well_formed(s: Schedule) -> bool
         last = at;
         i += 1;
     }
-    faults += check::misfit(last, expiry);
+    faults += check::expiry_misfit(last, expiry);
     while i < 256 {
         let l = s.leaps[i];
         faults += check::used(l);
@@ -211,7 +217,7 @@ pub fn is_list(words: &[u32; 514]) -> bool
     if 256 < words[512] {
         return false;
     }
-    if LAST_MONTH < words[513] {
+    if END_DAY < words[513] {
         return false;
     }
     if check::leaps_fit(words) {
@@ -219,6 +225,16 @@ pub fn is_list(words: &[u32; 514]) -> bool
     } else {
         false
     }
+}
+
+// The expiry of a list that expires at a month: that month's first day. A month past 2400 gets the first day of month 2400.
+pub fn expiry_at(month: u32) -> u32
+    ensures { λ r. ⌜ r ≡ monthStart (min month lastMonth) ⌝ }
+{
+    if LAST_MONTH < month {
+        return END_DAY;
+    }
+    calendar::first_day(month as u16) as u32
 }
 
 // Whether two signs are equal.
@@ -258,18 +274,47 @@ fn in_use(s: Schedule) -> usize
     if count < MAX_LEAPS { count } else { MAX_LEAPS }
 }
 
-// Whether a month is at or after an expiry.
-pub fn is_expired(expiry: u32, month: u32) -> bool
-    ensures { λ r. ⌜ r ≡ isExpired expiry month ⌝ }
+// The month of the last leap in use, or month 0 where there is none.
+fn last_leap(s: Schedule) -> u32
+    ensures { λ r. ⌜ r ≡ lastLeap 0 (leapsOf s) ⌝ }
 {
-    expiry <= month
+    let n = in_use(s);
+    if n == 0 {
+        return 0;
+    }
+    let last = n - 1;
+    wide(s.leaps[last].month)
 }
 
-// Whether a list extends another; any values at all may be given.
+// The month to which the writers round the expiry down.
+pub fn expiry_month(s: Schedule) -> u32
+    ensures { λ r. ⌜ r ≡ expiryMonth s ⌝ }
+{
+    wide(calendar::latest_month(s.expiry as u64))
+}
+
+// Whether rounding the expiry down leaves a gap.
+pub fn leaves_gap(s: Schedule) -> bool
+    ensures { λ r. ⌜ r ≡ leavesGap s ⌝ }
+{
+    below(last_leap(s), expiry_month(s))
+}
+
+// Whether a month is at or after an expiry. A month past 2400 is taken as month 2400.
+pub fn is_expired(expiry: u32, month: u32) -> bool
+    ensures { λ r. ⌜ r ≡ isExpired expiry (min month lastMonth) ⌝ }
+{
+    expiry <= expiry_at(month)
+}
+
+// Whether a list extends another; any values at all may be given. Nothing extends a list that expires past the calendar.
 pub fn extends(longer: Schedule, shorter: Schedule) -> bool
-    ensures { λ r. ⌜ r ≡ extends longer shorter ⌝ }
+    ensures { λ r. ⌜ r ≡ (leb (shorter .expiry) endDay && extends longer shorter) ⌝ }
 {
     let expiry = shorter.expiry;
+    if END_DAY < expiry {
+        return false;
+    }
     if longer.expiry < expiry {
         return false;
     }

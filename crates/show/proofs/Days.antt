@@ -7,7 +7,7 @@ use native.Mathlib.Omega.{arith}
 use borrow.Author.Tests.{le-leb, lt-leb}
 use Rattle.refusals.specs.Refusals.{before1972, notKnown, notWellFormed}
 use Rattle.calendar.specs.Calendar.{firstDay, monthStart}
-use Rattle.calendar.proofs.Laws.{start-from, start-le, start-lt}
+use Rattle.calendar.proofs.Laws.{start-zero, start-from, start-le, start-lt}
 use Rattle.schedule.specs.declared.Sign.{Sign}
 use Rattle.schedule.specs.declared.Sign.the-variants.{Positive, Negative}
 use Rattle.schedule.specs.declared.Leap.{Leap}
@@ -19,16 +19,15 @@ use Rattle.clock.specs.Known.{lastDay}
 use Rattle.clock.specs.Question.{dtaiOn, given, refused}
 use Rattle.clock.proofs.Checks.{pass}
 use Rattle.clock.proofs.Leaps.{not-yet, tally-none}
-use Rattle.show.specs.Show.{dtaiFrom}
 
--- every day of the stretch from a month to another has its DTAI
+-- every day of the stretch from a day to another has its DTAI
 abbrev pub SameDtai : Schedule → ℕ → ℕ → Type 0
-SameDtai s from to = (day : ℕ) → monthStart from ≤ day → day < monthStart to → dtaiOn s day ≡ given (dtaiFrom s from)
+SameDtai s from to = (day : ℕ) → from ≤ day → day < to → dtaiOn s day ≡ given (dtai s from)
 
--- and so in each stretch from a month on, as `stretches` has them
+-- and so in each stretch from a day on, as `stretches` has them
 abbrev pub EachSame : Schedule → ℕ → List Leap → Type 0
 EachSame s from [] = SameDtai s from (s .expiry)
-EachSame s from (l ∷ ls) = SameDtai s from (l .month) × EachSame s (l .month) ls
+EachSame s from (l ∷ ls) = SameDtai s from (monthStart (l .month)) × EachSame s (monthStart (l .month)) ls
 
 -- every leap is at a month or before it
 abbrev Until : ℕ → List Leap → Type 0
@@ -68,34 +67,32 @@ module _ (sign : Sign) where
 
 module _ (s : Schedule) (w : wellFormed s ≡ true) where
   -- a day before the expiry has a DTAI
-  known : (day : ℕ) → firstDay ≤ day → day < monthStart (s .expiry) → dtaiOn s day ≡ given (dtai s day)
+  known : (day : ℕ) → firstDay ≤ day → day < s .expiry → dtaiOn s day ≡ given (dtai s day)
   known day a b = pass notWellFormed w ∙ pass before1972 (le-leb firstDay day a) ∙ pass notKnown (le-leb day (lastDay s) (omega arith))
 
   same : (done rest : List Leap) (from to : ℕ) → leapsOf s ≡ done ++ rest → Until from done → to ≤ s .expiry
-      → ((sign : Sign) (day : ℕ) → day < monthStart to → tally sign rest day ≡ 0) → from < to → SameDtai s from to
+      → ((sign : Sign) (day : ℕ) → day < to → tally sign rest day ≡ 0) → monthStart from < to → SameDtai s (monthStart from) to
   same done rest from to e u h none f day a b =
-      let rise = start-lt f in
       let kept : (sign : Sign) → tally sign (leapsOf s) day ≡ tally sign (leapsOf s) (monthStart from)
       = λ sign. rw e (stays sign done rest from day u a (none sign day b) (none sign (monthStart from) (omega arith))) in
-      known day (omega (arith, start-from from)) (omega (arith, start-le h)) ∙ rw (kept Positive, kept Negative)
+      known day (omega (arith, start-from from)) (omega arith) ∙ rw (kept Positive, kept Negative)
 
-  go : (done ls : List Leap) (from : ℕ) → leapsOf s ≡ done ++ ls → Until from done → gapsFit from ls (s .expiry) ≡ true → EachSame s from ls
+  go : (done ls : List Leap) (from : ℕ) → leapsOf s ≡ done ++ ls → Until from done → gapsFit from ls (s .expiry) ≡ true → EachSame s (monthStart from) ls
   go done [] from e u g = same done [] from (s .expiry) e u (omega arith) (λ sign day h. refl) (before-end [] from (s .expiry) g)
   go done (l ∷ ls) from e u g =
       let m = l .month in
       let f : from < m = fits-lt from m (first from l ls (s .expiry) g) in
       let rest = later from l ls (s .expiry) g in (
-        same done (l ∷ ls) from m e u (omega (arith, before-end ls m (s .expiry) rest)) (λ sign day h. not-in-effect sign l ls from (s .expiry) day g h) f,
+        same done (l ∷ ls) from (monthStart m) e u (omega (arith, before-end ls m (s .expiry) rest)) (λ sign day h. not-in-effect sign l ls from (s .expiry) day g h) (start-lt f),
         go (done ++ (l ∷ [])) ls m (e ∙ sym (append-assoc done (l ∷ []) ls)) (until-more done l (until-later done (omega arith) u) (omega arith)) rest,
       )
 
   -- every day of each stretch has the DTAI that is shown for it
-  pub every-day : EachSame s 0 (leapsOf s)
-  every-day = go [] (leapsOf s) 0 refl tt (parts s w .gaps)
+  pub every-day : EachSame s firstDay (leapsOf s)
+  every-day = rw start-zero at (go [] (leapsOf s) 0 refl tt (parts s w .gaps))
 
   -- and from the day on which DTAI is shown to be unknown there is none
-  pub then-unknown : (day : ℕ) → monthStart (s .expiry) ≤ day → dtaiOn s day ≡ refused notKnown
+  pub then-unknown : (day : ℕ) → s .expiry ≤ day → dtaiOn s day ≡ refused notKnown
   then-unknown day h =
-      let a = start-from (s .expiry) in
-      let b = start-lt (before-end (leapsOf s) 0 (s .expiry) (parts s w .gaps)) in
-      pass notWellFormed w ∙ pass before1972 (le-leb firstDay day (omega arith)) ∙ rw (lt-leb day (lastDay s) (omega arith))
+      let b = before-end (leapsOf s) 0 (s .expiry) (parts s w .gaps) in
+      pass notWellFormed w ∙ pass before1972 (le-leb firstDay day (omega (arith, start-zero))) ∙ rw (lt-leb day (lastDay s) (omega (arith, start-zero)))

@@ -2,3 +2,4 @@
 mod Known
 mod Going
 pub mod Days
+pub mod Dates

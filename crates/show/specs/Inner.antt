@@ -7,8 +7,8 @@ use Rattle.format.specs.Ascii.{ascii}
 use Rattle.schedule.specs.declared.Leap.{Leap}
 use Rattle.schedule.specs.declared.Schedule.{Schedule}
 use Rattle.format.specs.Lines.{between}
-use Rattle.show.specs.Show.{firstDate, stretches}
+use Rattle.show.specs.Show.{dateOf, stretches}
 
--- what is shown of a well-formed schedule from a month on, with the leaps after it: the stretches, and then the first day from which DTAI is unknown
+-- what is shown of a well-formed schedule from a day on, with the leaps after it: the stretches, and then the first day from which DTAI is unknown
 unfoldable pub shownFrom : Bool → Schedule → ℕ → List Leap → List ℕ
-shownFrom lines s from ls = stretches lines s from ls ++ (between lines ++ (firstDate (s .expiry) ++ ascii " unknown"))
+shownFrom lines s from ls = stretches lines s from ls ++ (between lines ++ (dateOf (s .expiry) ++ ascii " unknown"))

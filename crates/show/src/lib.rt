@@ -4,9 +4,10 @@ ghost use mathlib.Core.Bool.{true};
 ghost use mathlib.Core.List.{[]};
 ghost use Prim.Native.Nat.{_≤_, _<_};
 ghost use Rattle.format.specs.Output.{PutsUpTo};
-ghost use Rattle.calendar.specs.Calendar.{daysInMonth, lastMonth};
+ghost use Rattle.calendar.specs.Calendar.{firstDay, endDay};
 ghost use Rattle.schedule.specs.Schedule.{leapsOf, wellFormed};
-ghost use Rattle.show.specs.Show.{date, dtaiFrom, stretch, shown};
+ghost use Rattle.show.specs.Show.{date, dateOf, stretch, shown};
+ghost use Rattle.clock.specs.Days.{dtai};
 ghost use Rattle.show.specs.Inner.{shownFrom};
 use clock::DtaiAnswer;
 use format::decimal::put_decimal;
@@ -32,66 +33,66 @@ fn put_date(out: &mut [u8], at: usize, month: u16, day: u64) -> usize
     put_pair(out, d, day)
 }
 
-// The number of days in a month.
-fn days_in(month: u16) -> u64
-    requires { ⌜ month < lastMonth ⌝ }
-    ensures { λ r. ⌜ r ≡ daysInMonth month ⌝ }
+// Puts an MJD as a date.
+fn put_day(out: &mut [u8], at: usize, day: u64) -> usize
+    requires { ⌜ (firstDay ≤ day) × (day ≤ endDay) ⌝ }
+    ensures { λ r. ⌜ PutsUpTo 26 (now (out .entry)) (now (out .exit)) at r (dateOf day) ⌝ }
 {
-    calendar::first_day(month + 1) - calendar::first_day(month)
+    let month = calendar::latest_month(day);
+    put_date(out, at, month, day - calendar::first_day(month) + 1)
 }
 
-// DTAI on the first day of a month that is known.
-fn dtai_from(s: Schedule, month: u16) -> i32
-    requires { ⌜ (wellFormed s ≡ true) × (month < s .expiry) ⌝ }
-    ensures { λ r. ⌜ r ≡ dtaiFrom s month ⌝ }
+// DTAI on a day that is known.
+fn dtai_from(s: Schedule, day: u64) -> i32
+    requires { ⌜ (wellFormed s ≡ true) × (firstDay ≤ day) × (day < s .expiry) ⌝ }
+    ensures { λ r. ⌜ r ≡ dtai s day ⌝ }
 {
-    let a = clock::dtai(s, calendar::first_day(month));
+    let a = clock::dtai(s, day);
     match a {
         DtaiAnswer::Given(z) => z,
         DtaiAnswer::Refused(_) => 0,
     }
 }
 
-// Puts a stretch, from the first day of a month to the day before another.
-fn put_stretch(out: &mut [u8], at: usize, s: Schedule, from: u16, to: u16) -> usize
-    requires { ⌜ (wellFormed s ≡ true) × ((from < to) × (to ≤ s .expiry)) ⌝ }
+// Puts a stretch, from a day to the day before another.
+fn put_stretch(out: &mut [u8], at: usize, s: Schedule, from: u64, to: u64) -> usize
+    requires { ⌜ (wellFormed s ≡ true) × (firstDay ≤ from) × (from < to) × (to ≤ s .expiry) ⌝ }
     ensures { λ r. ⌜ PutsUpTo 75 (now (out .entry)) (now (out .exit)) at r (stretch s from to) ⌝ }
 {
-    let last = to - 1;
     let z = dtai_from(s, from);
-    let a = put_date(out, at, from, 1);
+    let a = put_day(out, at, from);
     let b = put(out, a, b' ');
-    let c = put_date(out, b, last, days_in(last));
+    let c = put_day(out, b, to - 1);
     let d = put(out, c, b' ');
     put_with_sign(out, d, z)
 }
 
 // Puts the last stretch, and then the day from which DTAI is unknown.
-fn put_last(out: &mut [u8], at: usize, lines: bool, s: Schedule, from: u16) -> usize
-    requires { ⌜ (wellFormed s ≡ true) × (from < s .expiry) ⌝ }
+fn put_last(out: &mut [u8], at: usize, lines: bool, s: Schedule, from: u64) -> usize
+    requires { ⌜ (wellFormed s ≡ true) × (firstDay ≤ from) × (from < s .expiry) ⌝ }
     ensures { λ r. ⌜ PutsUpTo 111 (now (out .entry)) (now (out .exit)) at r (shownFrom lines s from []) ⌝ }
 {
-    let expiry = s.expiry as u16;
+    let expiry = s.expiry as u64;
     let a = put_stretch(out, at, s, from, expiry);
     let b = put_between(out, a, lines);
-    let c = put_date(out, b, expiry, 1);
+    let c = put_day(out, b, expiry);
     put_all(out, c, b" unknown")
 }
 
 // Puts the stretches of a schedule, and then the day from which DTAI is unknown.
 fn put_stretches(out: &mut [u8], at: usize, lines: bool, s: Schedule) -> usize
     requires { ⌜ wellFormed s ≡ true ⌝ }
-    ensures { λ r. ⌜ PutsUpTo 20000 (now (out .entry)) (now (out .exit)) at r (shownFrom lines s 0 (leapsOf s)) ⌝ }
+    ensures { λ r. ⌜ PutsUpTo 20000 (now (out .entry)) (now (out .exit)) at r (shownFrom lines s firstDay (leapsOf s)) ⌝ }
 {
     let count = s.count;
     let mut next = at;
-    let mut from: u16 = 0;
+    let mut from: u64 = calendar::FIRST_DAY;
     let mut i: usize = 0;
     while i < count {
-        let month = s.leaps[i].month;
-        next = put_stretch(out, next, s, from, month);
+        let start = calendar::first_day(s.leaps[i].month);
+        next = put_stretch(out, next, s, from, start);
         next = put_between(out, next, lines);
-        from = month;
+        from = start;
         i += 1;
     }
     put_last(out, next, lines, s, from)

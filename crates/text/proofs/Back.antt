@@ -1,6 +1,6 @@
--- Reading back: the text of a well-formed schedule is read as that schedule.
+-- Reading back: the text of a well-formed schedule is read as that schedule rounded down, so as itself where it expires on the first of a month.
 -- Assumes nothing.
-use mathlib.Core.Path.{_≡_, refl, _∙_}
+use mathlib.Core.Path.{_≡_, refl, ap, _∙_}
 use mathlib.Core.Bool.{true}
 use mathlib.Core.List.{List, [], _∷_, _++_, append-assoc}
 use Prim.Native.Nat.{ℕ, _+_, _*_, _-_, _/_, _%_, _≤_, _<_}
@@ -14,10 +14,13 @@ use Rattle.schedule.specs.declared.Sign.{Sign}
 use Rattle.schedule.specs.declared.Sign.the-variants.{Positive, Negative}
 use Rattle.schedule.specs.declared.Leap.{Leap}
 use Rattle.schedule.specs.declared.Schedule.{Schedule}
-use Rattle.schedule.specs.Schedule.{blankSchedule, leapsOf, gapsFit, wellFormed}
+use Rattle.schedule.specs.Schedule.{monthStart, blankSchedule, leapsOf, expiryMonth, roundedDown, leavesGap, wellFormed}
+use Rattle.calendar.specs.Calendar.{startsMonth}
+use Rattle.calendar.proofs.Laws.{month-most}
 use Rattle.schedule.specs.Answers.{accepted, withLeap}
 use Rattle.schedule.proofs.Cases.{by-bool}
-use Rattle.schedule.proofs.Gaps.{fits-lt, fits-le, first, later, before-end, parts}
+use Rattle.schedule.proofs.Gaps.{fits-lt, fits-le, parts}
+use Rattle.schedule.proofs.Rounded.{gapsTo, first-to, later-to, before-to, rounded-gaps, rounded-well, rounds-itself, first-leaves-gap}
 use Rattle.schedule.proofs.Adds.{adds, made-again}
 use Rattle.text.specs.Bytes.{zeroByte, nineByte, endByte, isDigit, digitOf, signByte}
 use Rattle.text.specs.Read.{readFrom, readText}
@@ -61,30 +64,34 @@ unfolding readFrom
 leap-back g p t m s Positive rest some e h room = simp (ne-eqb g 0 (λ z. omega arith), e, le-leb m 2400 h, lt-ltb (s .count) 256 room)
 leap-back g p t m s Negative rest some e h room = simp (ne-eqb g 0 (λ z. omega arith), e, le-leb m 2400 h, lt-ltb (s .count) 256 room)
 
-end-back : (g p t m : ℕ) (s : Schedule) → 0 < g → t + g ≡ m → m ≤ 2400 → readFrom g p t s (63 ∷ []) ≡ accepted s m
+end-back : (g p t m : ℕ) (s : Schedule) → 0 < g → t + g ≡ m → m ≤ 2400 → readFrom g p t s (63 ∷ []) ≡ accepted s (monthStart m)
 unfolding readFrom
 end-back g p t m s some e h = simp (ne-eqb g 0 (λ z. omega arith), e, le-leb m 2400 h)
 
-list-back : (ls : List Leap) (from p expiry : ℕ) (s : Schedule) → gapsFit from ls expiry ≡ true → expiry ≤ 2400 → s .count + length ls ≤ 256
-    → readFrom 0 p from s (textFrom from ls expiry) ≡ accepted (adds s ls) expiry
-unfolding textFrom gapsFit adds
+list-back : (ls : List Leap) (from p expiry : ℕ) (s : Schedule) → gapsTo from ls expiry ≡ true → expiry ≤ 2400 → s .count + length ls ≤ 256
+    → readFrom 0 p from s (textFrom from ls expiry) ≡ accepted (adds s ls) (monthStart expiry)
+unfolding textFrom gapsTo adds
 list-back [] from p expiry s f h room =
     let a : from < expiry = fits-lt from expiry f in
     let b : expiry - from ≤ 999 = fits-le from expiry f in
     gap-back (expiry - from) p from s (endByte ∷ []) (omega arith) b
     ∙ end-back (expiry - from) _ from expiry s (omega arith) (omega arith) h
 list-back (l ∷ ls) from p expiry s f h room =
-    let a : from < l .month = fits-lt from (l .month) (first from l ls expiry f) in
-    let b : l .month - from ≤ 999 = fits-le from (l .month) (first from l ls expiry f) in
-    let c : l .month < expiry = before-end ls (l .month) expiry (later from l ls expiry f) in
+    let a : from < l .month = fits-lt from (l .month) (first-to from l ls expiry f) in
+    let b : l .month - from ≤ 999 = fits-le from (l .month) (first-to from l ls expiry f) in
+    let c : l .month < expiry = before-to ls (l .month) expiry (later-to from l ls expiry f) in
     rw append-assoc (gap-back (l .month - from) p from s (signByte (l .sign) ∷ textFrom (l .month) ls expiry) (omega arith) b
     ∙ (leap-back (l .month - from) _ from (l .month) s (l .sign) (textFrom (l .month) ls expiry) (omega arith) (omega arith) (omega arith) (omega arith)
-    ∙ list-back ls (l .month) _ expiry (withLeap s (l .month) (l .sign)) (later from l ls expiry f) h (omega arith)))
+    ∙ list-back ls (l .month) _ expiry (withLeap s (l .month) (l .sign)) (later-to from l ls expiry f) h (omega arith)))
 
--- every well-formed schedule (with 256 places, as every schedule of the code has) reads back as itself
-pub reads-back : (s : Schedule) → length (s .leaps) ≡ 256 → wellFormed s ≡ true → readText (textOf s) ≡ record { number = 0; place = 0; schedule = s }
+-- the text of a well-formed schedule (with 256 places, as every schedule of the code has) reads back as the schedule rounded down
+pub reads-back-rounded : (s : Schedule) → length (s .leaps) ≡ 256 → wellFormed s ≡ true → leavesGap s ≡ true → readText (textOf s) ≡ record { number = 0; place = 0; schedule = roundedDown s }
 unfolding readText textOf
-reads-back s full w =
+reads-back-rounded s full w g =
     let p = parts s w in
     let len : length (leapsOf s) ≡ s .count = length-take-le (s .count) (s .leaps) (omega (arith, p .room)) in
-    list-back (leapsOf s) 0 0 (s .expiry) blankSchedule (p .gaps) (p .end) (omega (arith, p .room)) ∙ made-again s full w
+    list-back (leapsOf s) 0 0 (expiryMonth s) blankSchedule (rounded-gaps s w g) (month-most (s .expiry)) (omega (arith, p .room)) ∙ made-again (roundedDown s) full (rounded-well s w g)
+
+-- so every one that expires on the first of a month reads back as itself
+pub reads-back : (s : Schedule) → length (s .leaps) ≡ 256 → wellFormed s ≡ true → startsMonth (s .expiry) ≡ true → readText (textOf s) ≡ record { number = 0; place = 0; schedule = s }
+reads-back s full w m = reads-back-rounded s full w (first-leaves-gap s w m) ∙ ap (λ (t : Schedule). record { number = 0; place = 0; schedule = t }) (rounds-itself s m)

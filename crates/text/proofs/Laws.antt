@@ -1,10 +1,10 @@
 -- Laws of `readFrom` at a place of a list of bytes: what it is at the end, and what each kind of byte makes of it.
 -- Assumes nothing.
-use mathlib.Core.Path.{_≡_, subst}
+use mathlib.Core.Path.{_≡_, subst, _∙_}
 use mathlib.Core.Logic.{⊎-elim}
 use mathlib.Core.Bool.{true, false}
 use mathlib.Core.List.{List, [], _∷_}
-use Prim.Native.Nat.{ℕ, _+_, _*_, _≤_, _<_}
+use Prim.Native.Nat.{ℕ, _+_, _*_, _≤_, _<_, min}
 use native.Mathlib.Numerals.{add-one}
 use native.Mathlib.Omega.{arith}
 use lib.ListN.{length, getD, drop, set, drop-of-length-le}
@@ -25,6 +25,8 @@ use Rattle.text.specs.declared.End.the-variants.{Taken, Refusal}
 use Rattle.text.specs.declared.Mark.the-variants.{Leaps, Expires, Neither}
 use Rattle.schedule.specs.declared.Sign.{Sign}
 use Rattle.schedule.specs.WordLayout.{wordOfSign}
+use Rattle.calendar.specs.Calendar.{monthStart}
+use Rattle.calendar.proofs.Laws.{start-min}
 use Rattle.schedule.specs.Inner.{SoFar}
 use Rattle.schedule.specs.Answers.{refusal, accepted, withLeap, HandsReading}
 use Rattle.schedule.proofs.SoFar.{so-far-leap, so-far-end}
@@ -79,14 +81,15 @@ module _ (bytes : List ℕ) (g p t : ℕ) (s : Schedule) where
     unfolding readFrom
     follows m l n = rw (uncons bytes p h) (simp (due .no-digit h, nonzero, m, le-leb (t + g) 2400 l, uncons bytes (p + 1) n))
 
-    expires : markOf (getD bytes p 0) ≡ Expires → t + g ≤ 2400 → length bytes ≤ p + 1 → readFrom g p t s (drop p bytes) ≡ accepted s (t + g)
+    expires : markOf (getD bytes p 0) ≡ Expires → t + g ≤ 2400 → length bytes ≤ p + 1 → readFrom g p t s (drop p bytes) ≡ accepted s (monthStart (t + g))
     unfolding readFrom
     expires m l n = rw (uncons bytes p h) (simp (due .no-digit h, nonzero, m, le-leb (t + g) 2400 l, drop-of-length-le bytes n))
 
     -- a list that is taken stands in the words
     pub takes : markOf (getD bytes p 0) ≡ Expires → t + g ≤ 2400 → length bytes ≤ p + 1
-        → (n : ℕ) (words : List ℕ) → SoFar s n words → Ends (readFrom g p t s (drop p bytes)) Taken (set (set words 512 n) 513 (t + g))
-    takes m l e n words kept = rw (expires m l e) (so-far-end s n words kept (t + g))
+        → (n : ℕ) (words : List ℕ) → SoFar s n words → (e : ℕ) → e ≡ monthStart (min (t + g) 2400)
+        → Ends (readFrom g p t s (drop p bytes)) Taken (set (set words 512 n) 513 e)
+    takes m l f n words kept e is = rw (expires m l f, is ∙ start-min l) (so-far-end s n words kept (monthStart (t + g)))
 
     module _ (k : Sign) (m : markOf (getD bytes p 0) ≡ Leaps k) where
       pub leap-late : 2400 < t + g → readFrom g p t s (drop p bytes) ≡ refusal 4 p

@@ -6,7 +6,7 @@ use native.Mathlib.Omega.{arith}
 use lib.Dec.{ltb, leb, eqb}
 use Rattle.schedule.specs.declared.Schedule.{Schedule}
 use Rattle.schedule.specs.declared.Reading.{Reading}
-use Rattle.schedule.specs.Schedule.{blankSchedule}
+use Rattle.schedule.specs.Schedule.{monthStart, blankSchedule}
 use Rattle.schedule.specs.Answers.{withLeap}
 use Rattle.schedule.proofs.Cases.{by-cond}
 use Rattle.text.specs.Bytes.{isDigit, digitOf, markOf}
@@ -29,7 +29,7 @@ small (b ∷ bs) gap place total s =
     (λ _. by-cond Small (eqb gap 0) (λ _. omega arith)
     (λ _.
     by-mark Small (markOf b) (omega arith)
-    (λ _. by-cond Small (leb (total + gap) 2400) (λ _. at-end bs (place + 1) s (total + gap)) (λ _. omega arith))
+    (λ _. by-cond Small (leb (total + gap) 2400) (λ _. at-end bs (place + 1) s (monthStart (total + gap))) (λ _. omega arith))
     (λ k _.
     by-cond Small (leb (total + gap) 2400)
     (λ _. by-cond Small (ltb (s .count) 256) (λ _. small bs 0 (place + 1) (total + gap) (withLeap s (total + gap) k)) (λ _. omega arith))

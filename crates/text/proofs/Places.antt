@@ -1,6 +1,6 @@
 -- Where a reading that ends early stops.
 -- Assumes nothing.
-use mathlib.Core.Path.{_≡_, refl, ap, _∙_}
+use mathlib.Core.Path.{_≡_}
 use mathlib.Core.List.{List, [], _∷_}
 use Prim.Native.Nat.{ℕ, _+_, _*_, _<_}
 use native.Mathlib.Omega.{arith}
@@ -9,7 +9,7 @@ use lib.ListN.{length}
 use Rattle.refusals.specs.Refusals.{endsEarly}
 use Rattle.schedule.specs.declared.Schedule.{Schedule}
 use Rattle.schedule.specs.declared.Reading.{Reading}
-use Rattle.schedule.specs.Schedule.{blankSchedule}
+use Rattle.schedule.specs.Schedule.{monthStart, blankSchedule}
 use Rattle.schedule.specs.Answers.{refusal, withLeap}
 use Rattle.schedule.proofs.Cases.{by-cond}
 use Rattle.text.specs.Bytes.{isDigit, digitOf, markOf}
@@ -37,7 +37,7 @@ early (b ∷ bs) gap place total s end e =
     (λ _. other 2 place (omega arith))
     (λ _. by-mark (AtEnd end) (markOf b)
     (other 2 place (omega arith))
-    (λ _. by-cond (AtEnd end) (leb (total + gap) 2400) (λ _. after-mark bs (place + 1) (total + gap) s) (λ _. other 4 place (omega arith)))
+    (λ _. by-cond (AtEnd end) (leb (total + gap) 2400) (λ _. after-mark bs (place + 1) (monthStart (total + gap)) s) (λ _. other 4 place (omega arith)))
     (λ k _. by-cond (AtEnd end) (leb (total + gap) 2400)
     (λ _. by-cond (AtEnd end) (ltb (s .count) 256)
     (λ _. early bs 0 (place + 1) (total + gap) (withLeap s (total + gap) k) end (omega arith))

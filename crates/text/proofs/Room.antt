@@ -7,7 +7,7 @@ use native.Mathlib.Omega.{arith}
 use lib.ListN.{length, length-append, length-take}
 use Rattle.schedule.specs.declared.Leap.{Leap}
 use Rattle.schedule.specs.declared.Schedule.{Schedule}
-use Rattle.schedule.specs.Schedule.{leapsOf, wellFormed}
+use Rattle.schedule.specs.Schedule.{leapsOf, expiryMonth, wellFormed}
 use Rattle.schedule.proofs.Gaps.{parts}
 use Rattle.text.specs.Write.{textFrom, textOf}
 use Rattle.text.proofs.Digits.{few}
@@ -26,5 +26,5 @@ pub at-most : (s : Schedule) → wellFormed s ≡ true → length (textOf s) ≤
 unfolding textOf
 at-most s w =
     let l = length-take (s .count) (s .leaps) in
-    let i = from-short (leapsOf s) 0 (s .expiry) in
+    let i = from-short (leapsOf s) 0 (expiryMonth s) in
     omega (arith, parts s w .room)

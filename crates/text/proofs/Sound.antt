@@ -9,7 +9,9 @@ use native.Mathlib.Omega.{arith}
 use lib.Dec.{ltb, leb, eqb}
 use borrow.Author.Tests.{ltb-true, leb-true, eqb-false}
 use Rattle.schedule.specs.declared.Schedule.{Schedule}
-use Rattle.schedule.specs.Schedule.{blankSchedule, wellFormed}
+use Rattle.schedule.specs.Schedule.{monthStart, blankSchedule, leavesGap, wellFormed}
+use Rattle.calendar.specs.Calendar.{startsMonth}
+use Rattle.schedule.proofs.Rounded.{first-leaves-gap}
 use Rattle.schedule.specs.Answers.{withLeap}
 use Rattle.schedule.proofs.Cases.{by-cond}
 use Rattle.schedule.proofs.Sound.{Formed, never, Sound, sound-leap, sound-end, blank-sound}
@@ -18,7 +20,7 @@ use Rattle.text.specs.Read.{mayFollow, atEnd, readFrom, readText}
 use Rattle.text.proofs.Cases.{by-mark}
 use Rattle.text.proofs.Follow.{makes-gap}
 
-sound-mark : (bs : List ℕ) (place total gap : ℕ) (s : Schedule) → 0 < gap → gap ≤ 999 → total + gap ≤ 2400 → Sound total s → Formed (atEnd place s (total + gap) bs)
+sound-mark : (bs : List ℕ) (place total gap : ℕ) (s : Schedule) → 0 < gap → gap ≤ 999 → total + gap ≤ 2400 → Sound total s → Formed (atEnd place s (monthStart (total + gap)) bs)
 sound-mark [] place total gap s p q h d = sound-end total gap s p q h d
 sound-mark (b ∷ bs) place total gap s p q h d = never 6 place (omega arith)
 
@@ -53,3 +55,11 @@ refused-blank bytes = read-formed bytes .blank
 -- an accepted list's schedule is well formed
 pub accepted-well-formed : (bytes : List ℕ) → readText bytes .number ≡ 0 → wellFormed (readText bytes .schedule) ≡ true
 accepted-well-formed bytes = read-formed bytes .formed
+
+-- every reader gives a first of a month
+pub accepted-first : (bytes : List ℕ) → readText bytes .number ≡ 0 → startsMonth (readText bytes .schedule .expiry) ≡ true
+accepted-first bytes = read-formed bytes .first
+
+-- so what was read can be written
+pub accepted-leaves-gap : (bytes : List ℕ) → readText bytes .number ≡ 0 → leavesGap (readText bytes .schedule) ≡ true
+accepted-leaves-gap bytes e = first-leaves-gap (readText bytes .schedule) (accepted-well-formed bytes e) (accepted-first bytes e)

@@ -1,12 +1,12 @@
 -- A list has one spelling: the bytes of an accepted list are the writer's text of the schedule that reading gives.
 -- Assumes nothing.
 use mathlib.Core.Path.{_≡_, refl, sym, ap, _∙_}
-use mathlib.Core.Bool.{Bool, true, false, cond, and-eq-true-iff, _&&_}
+use mathlib.Core.Bool.{true, cond}
 use mathlib.Core.List.{List, [], _∷_, _++_, append-assoc, append-nil}
 use Prim.Native.Nat.{ℕ, _+_, _*_, _-_, _/_, _%_, _≤_, _<_}
 use native.Mathlib.Nat.{add-sub-cancel-left, pos-of-ne-zero}
 use native.Mathlib.Omega.{arith}
-use lib.ListN.{length, set, length-set}
+use lib.ListN.{length, length-set}
 use lib.Dec.{ltb, leb, eqb}
 use borrow.Author.Tests.{ltb-true, ltb-false, leb-true, eqb-true, eqb-false, ne-eqb}
 use Rattle.schedule.specs.declared.Sign.{Sign}
@@ -15,7 +15,8 @@ use Rattle.schedule.specs.declared.Leap.{Leap}
 use Rattle.schedule.specs.declared.Schedule.{Schedule}
 use Rattle.schedule.specs.declared.Reading.{Reading}
 use Rattle.text.specs.declared.Mark.the-variants.{Leaps, Expires, Neither}
-use Rattle.schedule.specs.Schedule.{blankSchedule, leapsOf}
+use Rattle.schedule.specs.Schedule.{monthStart, blankSchedule, leapsOf}
+use Rattle.calendar.proofs.Laws.{month-of-start}
 use Rattle.schedule.specs.Answers.{refusal, accepted, withLeap}
 use Rattle.schedule.proofs.Cases.{by-bool, by-cond}
 use Rattle.schedule.proofs.Sound.{leaps-with}
@@ -99,15 +100,15 @@ spelt-leap pre total gap s k h d =
           (simp (append-assoc, d .text (record { month = total + gap; sign = k } ∷ ls) e, add-sub-cancel-left total gap));
     }
 
-spelt-end : (pre : List ℕ) (total gap : ℕ) (s : Schedule) → Spelt pre total s → Says (pre ++ (digits gap ++ (63 ∷ []))) (accepted s (total + gap))
+spelt-end : (pre : List ℕ) (total gap : ℕ) (s : Schedule) → Spelt pre total s → total + gap ≤ 2400 → Says (pre ++ (digits gap ++ (63 ∷ []))) (accepted s (monthStart (total + gap)))
 unfolding textFrom textOf
-spelt-end pre total gap s d =
-    record { says = λ z. ap (λ (l : List Leap). textFrom 0 l (total + gap)) (sym (append-nil (leapsOf s))) ∙ (d .text [] (total + gap) ∙ rw (add-sub-cancel-left total gap)) }
+spelt-end pre total gap s d h =
+    record { says = λ z. ap (textFrom 0 (leapsOf s)) (month-of-start h) ∙ ap (λ (l : List Leap). textFrom 0 l (total + gap)) (sym (append-nil (leapsOf s))) ∙ (d .text [] (total + gap) ∙ rw (add-sub-cancel-left total gap)) }
 
 spelt-mark : (bs pre whole : List ℕ) (place total gap : ℕ) (s : Schedule) → whole ≡ pre ++ (digits gap ++ (63 ∷ bs)) → Spelt pre total s
-    → Says whole (atEnd place s (total + gap) bs)
-spelt-mark [] pre whole place total gap s w d = rw w (spelt-end pre total gap s d)
-spelt-mark (b ∷ bs) pre whole place total gap s w d = never 6 place (omega arith)
+    → total + gap ≤ 2400 → Says whole (atEnd place s (monthStart (total + gap)) bs)
+spelt-mark [] pre whole place total gap s w d h = rw w (spelt-end pre total gap s d h)
+spelt-mark (b ∷ bs) pre whole place total gap s w d h = never 6 place (omega arith)
 
 spelt : (bs : List ℕ) (gap place total : ℕ) (s : Schedule) (pre whole : List ℕ) → whole ≡ pre ++ (spelled gap ++ bs) → Spelt pre total s
     → Says whole (readFrom gap place total s bs)
@@ -123,7 +124,7 @@ spelt (b ∷ bs) gap place total s pre whole w d =
     (λ z. let w′ : whole ≡ pre ++ (digits gap ++ (b ∷ bs)) = rw (spelled-some gap (pos-of-ne-zero (eqb-false gap 0 z))) at w in
     by-mark (Says whole) (markOf b)
     (never 2 place (omega arith))
-    (λ m. by-cond (Says whole) (leb (total + gap) 2400) (λ _. spelt-mark bs pre whole (place + 1) total gap s (rw (end-byte b m) at w′) d) (λ _. never 4 place (omega arith)))
+    (λ m. by-cond (Says whole) (leb (total + gap) 2400) (λ h. spelt-mark bs pre whole (place + 1) total gap s (rw (end-byte b m) at w′) d (leb-true _ _ h)) (λ _. never 4 place (omega arith)))
     (λ k m. by-cond (Says whole) (leb (total + gap) 2400)
     (λ _. by-cond (Says whole) (ltb (s .count) 256)
     (λ f. spelt bs 0 (place + 1) (total + gap) (withLeap s (total + gap) k) (pre ++ (digits gap ++ (signByte k ∷ []))) whole

@@ -8,8 +8,9 @@ use native.Mathlib.Omega.{arith}
 use lib.ListN.{length, getD, drop, length-append, drop-of-length-le}
 use lib.Seq.{sets, length-sets}
 use Rattle.schedule.specs.declared.Schedule.{Schedule}
-use Rattle.schedule.specs.Schedule.{noLeap, leapsOf, gapFits, gapsFit, wellFormed}
-use Rattle.schedule.proofs.Gaps.{fits-lt, fits-le, first, later, parts}
+use Rattle.schedule.specs.Schedule.{noLeap, leapsOf, gapFits, expiryMonth, leavesGap, wellFormed}
+use Rattle.schedule.proofs.Gaps.{fits-lt, fits-le, parts}
+use Rattle.schedule.proofs.Rounded.{gapsTo, first-to, later-to, last-to, rounded-gaps}
 use Rattle.schedule.proofs.Formed as formed
 use Rattle.schedule.proofs.Stores.{sets-append}
 use Rattle.text.specs.Bytes.{signByte, endByte}
@@ -25,12 +26,12 @@ marked-few g mark = omega (arith, marked-length g mark, few g)
 
 -- the text from the leap i on, the month before it being `last`
 abbrev pub rest : Schedule → ℕ → ℕ → List ℕ
-rest s i last = textFrom last (drop i (leapsOf s)) (s .expiry)
+rest s i last = textFrom last (drop i (leapsOf s)) (expiryMonth s)
 
 -- where a writer stands before the leap i: n bytes of the text are behind it
 pub record Standing (s : Schedule) (n i last : ℕ) : Type 0 where
   pub within : i ≤ s .count
-  pub gaps : gapsFit last (drop i (leapsOf s)) (s .expiry) ≡ true
+  pub gaps : gapsTo last (drop i (leapsOf s)) (expiryMonth s) ≡ true
   pub left : n + length (rest s i last) ≡ length (textOf s)
 
 -- where a writer stands whose output was out₀ and is now out: what is still to be stored makes the whole text
@@ -39,17 +40,17 @@ pub record Storing (s : Schedule) (out₀ out : List ℕ) (n i last : ℕ) : Typ
   pub same : length out ≡ length out₀
   pub stores : sets out n (rest s i last) ≡ sets out₀ 0 (textOf s)
 
-module _ (s : Schedule) (w : wellFormed s ≡ true) where
+module _ (s : Schedule) (w : (wellFormed s ≡ true) × (leavesGap s ≡ true)) where
   pub start : Standing s 0 0 0
   unfolding textOf
-  start = record { within = omega arith; gaps = parts s w .gaps; left = omega arith }
+  start = record { within = omega arith; gaps = rounded-gaps s (w .0) (w .1); left = omega arith }
 
   pub start-storing : (out : List ℕ) → Storing s out out 0 0 0
   unfolding textOf
   start-storing out = record { standing = start; same = refl; stores = refl }
 
   pub room : s .count ≤ 256
-  room = parts s w .room
+  room = parts s (w .0) .room
 
   module _ (full : length (s .leaps) ≡ 256) (n i last : ℕ) (st : Standing s n i last) where
     -- at a leap
@@ -58,7 +59,7 @@ module _ (s : Schedule) (w : wellFormed s ≡ true) where
       here = formed.in-use s i (omega (arith, formed.used s full i room))
 
       fits : gapFits last month ≡ true
-      fits = rw e (first last _ (drop (i + 1) (leapsOf s)) (s .expiry) (rw here at (st .gaps)))
+      fits = rw e (first-to last _ (drop (i + 1) (leapsOf s)) (expiryMonth s) (rw here at (st .gaps)))
 
       pub gap-sure : (last ≤ month) × (month - last ≤ 999)
       gap-sure = let a = fits-lt last month fits in (omega arith, fits-le last month fits)
@@ -76,7 +77,7 @@ module _ (s : Schedule) (w : wellFormed s ≡ true) where
       next m mark k =
           record {
             within = omega arith;
-            gaps = rw e (later last _ (drop (i + 1) (leapsOf s)) (s .expiry) (rw here at (st .gaps)));
+            gaps = rw e (later-to last _ (drop (i + 1) (leapsOf s)) (expiryMonth s) (rw here at (st .gaps)));
             left = omega (arith, next-length mark, st .left);
           }
 
@@ -86,19 +87,19 @@ module _ (s : Schedule) (w : wellFormed s ≡ true) where
 
     -- at the expiry
     module _ (h : s .count ≤ i) where
-      fits-end : gapFits last (s .expiry) ≡ true
-      fits-end = sym (formed.gap-last s full i room h last (s .expiry)) ∙ st .gaps
+      fits-end : gapFits last (expiryMonth s) ≡ true
+      fits-end = sym (last-to s i last (expiryMonth s) (omega (arith, formed.used s full i room))) ∙ st .gaps
 
-      pub end-sure : (last ≤ s .expiry) × (s .expiry - last ≤ 999)
-      end-sure = let a = fits-lt last (s .expiry) fits-end in (omega arith, fits-le last (s .expiry) fits-end)
+      pub end-sure : (last ≤ expiryMonth s) × (expiryMonth s - last ≤ 999)
+      end-sure = let a = fits-lt last (expiryMonth s) fits-end in (omega arith, fits-le last (expiryMonth s) fits-end)
 
-      pub end-text : rest s i last ≡ marked (s .expiry - last) endByte
+      pub end-text : rest s i last ≡ marked (expiryMonth s - last) endByte
       unfolding textFrom
       end-text =
           let j : length (leapsOf s) ≤ i = omega (arith, formed.used s full i room) in
           rw (drop-of-length-le (leapsOf s) j)
 
-      pub end-length : n + length (marked (s .expiry - last) endByte) ≡ length (textOf s)
+      pub end-length : n + length (marked (expiryMonth s - last) endByte) ≡ length (textOf s)
       end-length = omega (arith, ap length end-text, st .left)
 
   module _ (full : length (s .leaps) ≡ 256) (out₀ out : List ℕ) (n i last : ℕ) (st : Storing s out₀ out n i last) where
@@ -116,5 +117,5 @@ module _ (s : Schedule) (w : wellFormed s ≡ true) where
               (sym (sets-append (marked (month - last) mark) out n (rest s (i + 1) month)) ∙ (ap (sets out n) (text ∙ sym whole) ∙ st .stores));
         }
 
-    pub end-storing : s .count ≤ i → (exit : List ℕ) → exit ≡ sets out n (marked (s .expiry - last) endByte) → exit ≡ sets out₀ 0 (textOf s)
+    pub end-storing : s .count ≤ i → (exit : List ℕ) → exit ≡ sets out n (marked (expiryMonth s - last) endByte) → exit ≡ sets out₀ 0 (textOf s)
     end-storing h exit p = p ∙ ap (sets out n) (sym (end-text full n i last (st .standing) h)) ∙ st .stores

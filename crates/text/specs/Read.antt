@@ -8,7 +8,7 @@ use Rattle.refusals.specs.Refusals.{endsEarly, notAllowed, badGap, pastLastMont
 use Rattle.schedule.specs.declared.Sign.{Sign}
 use Rattle.schedule.specs.declared.Schedule.{Schedule}
 use Rattle.schedule.specs.declared.Reading.{Reading}
-use Rattle.schedule.specs.Schedule.{blankSchedule, lastMonth, maxLeaps}
+use Rattle.schedule.specs.Schedule.{blankSchedule, lastMonth, monthStart, maxLeaps}
 use Rattle.schedule.specs.Answers.{refusal, accepted, withLeap}
 use Rattle.text.specs.declared.Mark.{Mark}
 use Rattle.text.specs.declared.Mark.the-variants.{Leaps, Expires, Neither}
@@ -18,7 +18,7 @@ use Rattle.text.specs.Bytes.{zeroByte, isDigit, digitOf, markOf}
 abbrev pub mayFollow : ℕ → ℕ → Bool
 mayFollow gap b = cond (eqb gap 0) (not (eqb b zeroByte)) (ltb gap 100)
 
--- nothing follows the "?"
+-- nothing follows the "?"; the list expires on a day
 abbrev pub atEnd : ℕ → Schedule → ℕ → List ℕ → Reading
 atEnd place s expiry [] = accepted s expiry
 atEnd place s expiry (b ∷ bs) = refusal afterEnd place
@@ -39,7 +39,7 @@ readFrom gap place total s (b ∷ bs) =
     (cond (eqb gap 0) (refusal notAllowed place)
     (byMark (markOf b)
     (refusal notAllowed place)
-    (cond (leb (total + gap) lastMonth) (atEnd (place + 1) s (total + gap) bs) (refusal pastLastMonth place))
+    (cond (leb (total + gap) lastMonth) (atEnd (place + 1) s (monthStart (total + gap)) bs) (refusal pastLastMonth place))
     (λ (g : Sign). cond (leb (total + gap) lastMonth)
     (cond (ltb (s .count) maxLeaps) (readFrom 0 (place + 1) (total + gap) (withLeap s (total + gap) g) bs) (refusal tooManyLeaps place))
     (refusal pastLastMonth place))))

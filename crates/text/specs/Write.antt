@@ -6,7 +6,7 @@ use mathlib.Core.List.{List, [], _∷_, _++_}
 use lib.Dec.{ltb}
 use Rattle.schedule.specs.declared.Leap.{Leap}
 use Rattle.schedule.specs.declared.Schedule.{Schedule}
-use Rattle.schedule.specs.Schedule.{leapsOf}
+use Rattle.schedule.specs.Schedule.{leapsOf, expiryMonth}
 use Rattle.text.specs.Bytes.{zeroByte, signByte, endByte}
 
 -- a gap of 1 to 999 in decimal with no leading zero
@@ -19,11 +19,11 @@ digits g =
 abbrev pub marked : ℕ → ℕ → List ℕ
 marked g mark = digits g ++ (mark ∷ [])
 
--- zero or more of gap and sign, then a gap and "?"; the first gap is from the month given
+-- zero or more of gap and sign, then a gap and "?"; the first gap is from the month given, the last one to the month at the end
 unfoldable pub textFrom : ℕ → List Leap → ℕ → List ℕ
-textFrom from [] expiry = marked (expiry - from) endByte
-textFrom from (l ∷ ls) expiry = marked (l .month - from) (signByte (l .sign)) ++ textFrom (l .month) ls expiry
+textFrom from [] end = marked (end - from) endByte
+textFrom from (l ∷ ls) end = marked (l .month - from) (signByte (l .sign)) ++ textFrom (l .month) ls end
 
--- the text of a schedule
+-- the text of a schedule, whose expiry is rounded down to its month
 unfoldable pub textOf : Schedule → List ℕ
-textOf s = textFrom 0 (leapsOf s) (s .expiry)
+textOf s = textFrom 0 (leapsOf s) (expiryMonth s)

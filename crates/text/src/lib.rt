@@ -8,7 +8,7 @@ ghost use mathlib.Core.Bool.{true};
 ghost use Prim.Native.Nat.{_+_, _≤_};
 ghost use lib.ListN.{length, drop};
 ghost use lib.Seq.{sets};
-ghost use Rattle.schedule.specs.Schedule.{wellFormed};
+ghost use Rattle.schedule.specs.Schedule.{expiryMonth, leavesGap, wellFormed};
 ghost use Rattle.schedule.specs.declared.Schedule.{Schedule};
 ghost use Rattle.schedule.specs.Inner.{SoFar};
 ghost use Rattle.schedule.specs.Answers.{writing, written, HandsReading};
@@ -148,7 +148,7 @@ fn read_mark(
                 return End::Refusal(refusals::AFTER_END, after);
             }
             words[512] = count as u32;
-            words[513] = months;
+            words[513] = schedule::expiry_at(months);
             End::Taken
         }
         Mark::Leaps(sign) => {
@@ -246,9 +246,9 @@ pub fn sign_byte(sign: Sign) -> u8
     }
 }
 
-// The length of a schedule's text.
-fn text_len(s: Schedule) -> usize
-    requires { ⌜ wellFormed s ≡ true ⌝ }
+// The length of the text of a schedule whose expiry is rounded down to a month.
+fn text_len(s: Schedule, end: u32) -> usize
+    requires { ⌜ (wellFormed s ≡ true) × (leavesGap s ≡ true) × (end ≡ expiryMonth s) ⌝ }
     ensures { λ r. ⌜ r ≡ length (textOf s) ⌝ }
 {
     let count = s.count;
@@ -261,12 +261,12 @@ fn text_len(s: Schedule) -> usize
         last = month;
         i += 1;
     }
-    n + gap_len(s.expiry - last) + 1
+    n + gap_len(end - last) + 1
 }
 
-// Writes a schedule's text from the start of a slice that has room for it.
-fn put_text(s: Schedule, out: &mut [u8])
-    requires { ⌜ (wellFormed s ≡ true) × (length (textOf s) ≤ length (now out)) ⌝ }
+// Writes the text of a schedule whose expiry is rounded down to a month, from the start of a slice that has room for it.
+fn put_text(s: Schedule, end: u32, out: &mut [u8])
+    requires { ⌜ ((wellFormed s ≡ true) × (leavesGap s ≡ true) × (end ≡ expiryMonth s)) × (length (textOf s) ≤ length (now out)) ⌝ }
     ensures { λ _. ⌜ now (out .exit) ≡ sets (now (out .entry)) 0 (textOf s) ⌝ }
 {
     let count = s.count;
@@ -281,7 +281,7 @@ fn put_text(s: Schedule, out: &mut [u8])
         last = month;
         i += 1;
     }
-    put_mark(out, at, s.expiry - last, b'?');
+    put_mark(out, at, end - last, b'?');
 }
 
 // Writes the compact text list of a schedule; any schedule and any output may be given.
@@ -289,16 +289,23 @@ pub fn write_text(s: Schedule, out: &mut [u8]) -> Writing
     ensures { λ r. ⌜ (r ≡ writing s (textOf s) (length (now (out .entry)))) × (now (out .exit) ≡ written s (textOf s) (now (out .entry))) ⌝ }
 {
     if schedule::is_well_formed(s) {
-        let n = text_len(s);
-        if n <= out.len() {
-            put_text(s, out);
+        if schedule::leaves_gap(s) {
+            let end = schedule::expiry_month(s);
+            let n = text_len(s, end);
+            if n <= out.len() {
+                put_text(s, end, out);
+                return Writing {
+                    number: 0,
+                    count: n,
+                };
+            }
             return Writing {
-                number: 0,
-                count: n,
+                number: refusals::OUTPUT_SHORT,
+                count: 0,
             };
         }
         return Writing {
-            number: refusals::OUTPUT_SHORT,
+            number: refusals::NO_GAP,
             count: 0,
         };
     }

@@ -103,7 +103,7 @@ pub fn formats(list: &List) -> Result<(), String> {
 /// program; gives how many bytes the comparison has.
 pub fn two(lists: &Two) -> Result<usize, String> {
     let (first, second) = (lists.first.as_bytes(), lists.second.as_bytes());
-    let (mut ours, mut theirs, mut length) = ([0; 4629], [0; 4629], u64::MAX);
+    let (mut ours, mut theirs, mut length) = ([0; 4633], [0; 4633], u64::MAX);
     let number = ffi::compare_text(first, second, &mut ours, &mut length);
     if (number, length) != second::compare_text(first, second, &mut theirs) || ours != theirs {
         return Err(format!("{}: compared differently", lists.name));

@@ -26,7 +26,7 @@ const LONG_DAY: u64 = 86_401 * SECOND;
 const UTS_DAY: u64 = 1_000 * DAY;
 /// The time over which a leap is smoothed.
 const SMOOTHING: u64 = 1_000 * SECOND;
-/// No day is smoothed before this, and Z is known to here.
+/// No day is smoothed before this, and every Z is known to here.
 const PLAIN: u64 = SHORT_DAY - SMOOTHING;
 
 const BEFORE_1972: u8 = 8;
@@ -47,12 +47,18 @@ struct Baseline<const ROOM: usize> {
     endings: [i8; ROOM],
     /// Z, the last day before the expiry.
     last: u64,
+    /// The day with the cut-offs: Z before the first of a month, else no day.
+    cut_off: u64,
     /// How long TAI is known.
     tai_span: u64,
 }
 
+/// Days from 0000-03-01 to MJD 0: those to 1970-01-01, which is MJD 40587, less as
+/// many.
+const MJD_ZERO: u64 = 719_468 - 40_587;
+
 /// The first day of a month, with month 0 as January 1972 (Hinnant's
-/// `days_from_civil`; MJD 40587 is 1970-01-01).
+/// `days_from_civil`).
 fn month_start(month: u32) -> u64 {
     let (year, month) = (1972 + month / 12, month % 12 + 1);
     // The year starts with March, so that its last day is the leap day.
@@ -63,7 +69,17 @@ fn month_start(month: u32) -> u64 {
     };
     let day_of_year = (153 * month + 2) / 5;
     let days = 365 * year + year / 4 - year / 100 + year / 400 + day_of_year;
-    u64::from(days) - 719_468 + 40_587 - FIRST_DAY
+    u64::from(days) - MJD_ZERO - FIRST_DAY
+}
+
+/// Whether a day is the first of a month (by Hinnant's `civil_from_days`).
+fn is_first(mjd: u64) -> bool {
+    let day_of_era = (mjd + MJD_ZERO) % 146_097;
+    let year_of_era =
+        (day_of_era - day_of_era / 1_460 + day_of_era / 36_524 - day_of_era / 146_096) / 365;
+    let day_of_year = day_of_era - (365 * year_of_era + year_of_era / 4 - year_of_era / 100);
+    let month = (5 * day_of_year + 2) / 153;
+    day_of_year == (153 * month + 2) / 5
 }
 
 /// The last place whose start is below an end; place 0's always is. It takes two
@@ -95,7 +111,9 @@ pub fn prepared(words: &Words) -> Box<dyn Program> {
 impl<const ROOM: usize> Baseline<ROOM> {
     fn new(words: &Words) -> Baseline<ROOM> {
         let count = words[512] as usize;
-        let last = month_start(words[513]) - 1;
+        let expiry = u64::from(words[513]);
+        let last = expiry - 1 - FIRST_DAY;
+        let is_cut_off = is_first(expiry);
         let mut new = Baseline {
             start_days: [u32::MAX; ROOM],
             start_tais: [u64::MAX; ROOM],
@@ -103,6 +121,7 @@ impl<const ROOM: usize> Baseline<ROOM> {
             dtais: [0; ROOM],
             endings: [0; ROOM],
             last,
+            cut_off: if is_cut_off { last } else { u64::MAX },
             tai_span: 0,
         };
         new.start_stretch(0, 0, FIRST_DTAI);
@@ -112,7 +131,8 @@ impl<const ROOM: usize> Baseline<ROOM> {
             let dtai = new.dtais[at] + i32::from(sign);
             new.start_stretch(at + 1, month_start(leap[0]), dtai);
         }
-        let end = (last * DAY + SHORT_DAY).wrapping_add(new.offsets[count]);
+        let length = if is_cut_off { SHORT_DAY } else { DAY };
+        let end = (last * DAY + length).wrapping_add(new.offsets[count]);
         new.tai_span = end - FIRST_TAI;
         new
     }
@@ -142,8 +162,9 @@ impl<const ROOM: usize> Baseline<ROOM> {
     }
 
     /// The number with which an instant is refused, or 0; `limit` is where no
-    /// day has such a time, and `cutoff` where Z is not known.
-    fn refusal(&self, mjd: u64, time: u64, limit: u64, cutoff: u64) -> u8 {
+    /// day has such a time, and `cut_off` from where on a Z of unknown length is not
+    /// known.
+    fn refusal(&self, mjd: u64, time: u64, limit: u64, cut_off: u64) -> u8 {
         if mjd < FIRST_DAY {
             return BEFORE_1972;
         }
@@ -151,15 +172,15 @@ impl<const ROOM: usize> Baseline<ROOM> {
             return NO_INSTANT;
         }
         let day = mjd - FIRST_DAY;
-        if day > self.last || (day == self.last && time >= cutoff) {
+        if day > self.last || (day == self.cut_off && time >= cut_off) {
             return NOT_KNOWN;
         }
         0
     }
 
     /// The same for UTC, where the day's own length is looked at last.
-    fn utc_refusal(&self, mjd: u64, micros: u64, cutoff: u64) -> u8 {
-        match self.refusal(mjd, micros, LONG_DAY, cutoff) {
+    fn utc_refusal(&self, mjd: u64, micros: u64, cut_off: u64) -> u8 {
+        match self.refusal(mjd, micros, LONG_DAY, cut_off) {
             0 if micros >= length(self.ending(mjd - FIRST_DAY)) => NO_INSTANT,
             number => number,
         }

@@ -202,7 +202,7 @@ fn second_writing<'a>(what: &'static str, raw: &'a Raw, write: SecondWrite) -> C
 }
 
 fn comparing<'a>(what: &'static str, lists: &'a Two) -> Case<'a> {
-    let (mut out, mut written) = ([0; 4629], 0);
+    let (mut out, mut written) = ([0; 4633], 0);
     list_case(what, ARCHIVE, move || {
         let (first, second) = black_box((lists.first.as_bytes(), lists.second.as_bytes()));
         black_box(ffi::compare_text(first, second, &mut out, &mut written));
@@ -211,7 +211,7 @@ fn comparing<'a>(what: &'static str, lists: &'a Two) -> Case<'a> {
 }
 
 fn second_comparing<'a>(what: &'static str, lists: &'a Two) -> Case<'a> {
-    let mut out = [0; 4629];
+    let mut out = [0; 4633];
     list_case(what, crate::programs::SECOND, move || {
         let (first, second) = black_box((lists.first.as_bytes(), lists.second.as_bytes()));
         black_box(second::compare_text(first, second, &mut out));

@@ -52,7 +52,7 @@ impl Instants {
 pub fn random(list: &List, second: &Prepared) -> Instants {
     let mut random = Random(0x1972_0101_2016_1231);
     let mut set = Instants::new("random instants");
-    let days = month_start(list.expiry()) - FIRST_DAY;
+    let days = list.expiry_mjd() - FIRST_DAY;
     while set.mjd.len() < COUNT {
         let mjd = FIRST_DAY + random.below(days);
         set.add(second, mjd, random.below(LONG_DAY));
@@ -93,9 +93,8 @@ pub fn refusals(list: &List, second: &Prepared) -> Instants {
 fn days(list: &List) -> Vec<u64> {
     let mut days = vec![0, 1, 41_315, 41_316, 41_317, 41_318, 114_365, 114_366];
     days.extend([u64::MAX, u64::MAX - 41_317, 1 << 32, (1 << 32) + 41_400]);
-    for month in list.months().chain([list.expiry()]) {
-        let start = month_start(month);
-        days.extend(start - 2..=start + 1);
+    for day in list.months().map(month_start).chain([list.expiry_mjd()]) {
+        days.extend(day - 2..=day + 1);
     }
     days
 }

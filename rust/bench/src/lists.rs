@@ -40,8 +40,20 @@ impl List {
         self.words.chunks_exact(2).take(count).map(|leap| leap[0])
     }
 
-    pub fn expiry(&self) -> u32 {
-        self.words[513]
+    pub fn expiry_mjd(&self) -> u64 {
+        self.words[513].into()
+    }
+
+    /// The list with an expiry so many days later, but in the same month, which its
+    /// text and nybbles round down.
+    fn later(self, name: &'static str, days: u32) -> List {
+        let mut words = self.words;
+        words[513] += days;
+        List {
+            name,
+            words,
+            ..self
+        }
     }
 }
 
@@ -91,10 +103,19 @@ pub fn b_twice() -> Two {
     }
 }
 
-pub fn all() -> Result<[List; 3], String> {
-    Ok([
-        List::read("list B", B.to_string())?,
-        List::read("256 leaps, nine months apart", longest())?,
-        List::read("256 leaps, a month apart", densest())?,
-    ])
+/// The lists that are timed, and after them those that are compared only.
+pub fn all() -> Result<([List; 3], [List; 2]), String> {
+    let b = || List::read("list B", B.to_string());
+    let longest = || List::read("256 leaps, nine months apart", longest());
+    Ok((
+        [
+            b()?,
+            longest()?,
+            List::read("256 leaps, a month apart", densest())?,
+        ],
+        [
+            b()?.later("list B to the 28th", 27),
+            longest()?.later("256 leaps to a 2nd", 1),
+        ],
+    ))
 }

@@ -48,9 +48,9 @@ beside
 
 and at last says which targets are met under list B, for random instants and for
 those of one evening, by the calls about two lists and by a day's replay. Before it
-times anything it compares the answers of archive, second program and baseline. The
-exit status is 0 whatever the times are, 1 if answers differ, and 2 for an unknown
-argument.
+times anything it compares the answers of archive, second program and baseline, also
+under lists that expire within a month. The exit status is 0 whatever the times are,
+1 if answers differ, and 2 for an unknown argument.
 ";
 
 const COMPARED: &str = "\
@@ -180,13 +180,16 @@ fn ratio(header: &'static str, to: fn(&[Timed], &str) -> Option<f64>) -> Ratio {
 }
 
 fn run() -> Result<(), String> {
-    let [b, longest, densest] = &lists::all()?;
+    let ([b, longest, densest], within_a_month) = &lists::all()?;
     let (b, longest, densest) = (Bench::new(b)?, Bench::new(longest)?, Bench::new(densest)?);
     println!("{COMPARED}");
     for bench in [&b, &longest, &densest] {
         bench.compare()?;
     }
-    println!("  all three lists as text and as nybbles, read and written");
+    for list in within_a_month {
+        Bench::new(list)?.compare()?;
+    }
+    println!("  all five lists as text and as nybbles, read and written");
     let (largest, b_twice) = (lists::largest(), lists::b_twice());
     for two in [&largest, &b_twice] {
         let (name, bytes) = (two.name, agree::two(two)?);

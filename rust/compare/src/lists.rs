@@ -7,7 +7,8 @@ use crate::random::Random;
 use crate::schedules;
 
 fn gaps_of(words: &Words) -> Vec<(u32, Mark)> {
-    Schedule::from_raw(&Raw::from_words(words)).map_or(Vec::new(), |s| s.gaps())
+    let gaps = Schedule::from_raw(&Raw::from_words(words)).map(|s| s.gaps());
+    gaps.and_then(Result::ok).unwrap_or_default()
 }
 
 fn sign(random: &mut Random) -> Mark {
@@ -93,13 +94,13 @@ pub mod text {
         }
     }
 
-    /// The list of a schedule; empty if that is not well formed.
+    /// The list of a schedule; empty if there is none.
     pub fn of(words: &Words) -> Vec<u8> {
         spelt(&gaps_of(words))
     }
 
     pub fn valid(random: &mut Random) -> Vec<u8> {
-        of(&schedules::any(random))
+        of(&schedules::readable(random))
     }
 
     pub fn broken(random: &mut Random) -> Vec<u8> {
@@ -192,13 +193,15 @@ pub mod nybbles {
 
     /// The writer's own spelling.
     pub fn preferred(random: &mut Random) -> Vec<u8> {
-        let schedule = Schedule::from_raw(&Raw::from_words(&schedules::any(random)));
-        schedule.map_or(Vec::new(), |s| second::nybbles::spell(&s))
+        let words = schedules::readable(random);
+        let schedule = Schedule::from_raw(&Raw::from_words(&words));
+        let spelt = schedule.map(|s| second::nybbles::spell(&s));
+        spelt.and_then(Result::ok).unwrap_or_default()
     }
 
     /// Any spelling.
     pub fn valid(random: &mut Random) -> Vec<u8> {
-        let gaps = gaps_of(&schedules::any(random));
+        let gaps = gaps_of(&schedules::readable(random));
         let list = spelt(random, &gaps);
         if second::nybbles::parse(&list).is_ok() {
             list

@@ -8,7 +8,11 @@
 //! before it is made: the last one shown is the one that stopped the program.
 
 mod call;
+mod days;
+mod edits;
+mod expiries;
 mod lists;
+mod malformed;
 mod many;
 mod pairs;
 mod paste;
@@ -31,13 +35,13 @@ use pairs::Pair;
 use random::Random;
 use replays::{Day, Ended, Playing};
 use shrink::shrink;
-use sources::Make::{Contradiction, Extension, List, Trace, Two, Words};
+use sources::Make::{Contradiction, Extension, From, List, Trace, Two, Words};
 use sources::{Cuts, Make, MakePair, SOURCES};
-use tally::{Tally, EVERY_ROOM, LONGEST, TWO_LISTS};
+use tally::{Tally, ANY_LIST, EVERY_ROOM, LONGEST, TWO_LISTS};
 use tally::{BYTE_BY_BYTE, CUT_EVERYWHERE, CUT_SHORT, EMPTY_TRACES, TRACES, WITHOUT_LF};
 use texts::COMPARISON_ROOM;
 
-const CALLS: u64 = 1_200_000;
+const CALLS: u64 = 1_300_000;
 const SEED: u64 = 1972;
 
 /// Both programs, by name.
@@ -61,10 +65,7 @@ fn compared(call: &Call, tally: &mut Tally) -> Result<Outcome, String> {
             paste::call(&smallest)
         ));
     }
-    tally.add(call.name(), expected.number);
-    if let Some(verdict) = call.verdict(&expected) {
-        tally.meet(verdict);
-    }
+    tally.count(call, &expected);
     Ok(expected)
 }
 
@@ -99,6 +100,9 @@ fn compare_extension(
     other: &leap::ffi::Words,
     tally: &mut Tally,
 ) -> Result<(), String> {
+    if let Some(met) = expiries::in_one_month(one, other) {
+        tally.meet(met);
+    }
     let (one, other) = (Box::new(*one), Box::new(*other));
     compare(&Call::Extends(one.clone(), other.clone()), tally)?;
     compare(&Call::Extends(other, one), tally)
@@ -110,10 +114,19 @@ fn use_words(
     random: &mut Random,
     tally: &mut Tally,
 ) -> Result<(), String> {
+    for kind in expiries::kinds(words) {
+        tally.meet(kind);
+    }
     for format in [Format::Text, Format::Nybbles] {
-        let list = second(&Call::Write(format, Box::new(*words), 1_028));
+        let list = second(&Call::Write(format, Box::new(*words), ANY_LIST));
         let length = list.values[0] as usize;
-        let near = [length, length, length.saturating_sub(1), length + 1, 1_028];
+        let near = [
+            length,
+            length,
+            length.saturating_sub(1),
+            length + 1,
+            ANY_LIST,
+        ];
         let room = match random.below(6) {
             0 => random.below(length + 1),
             _ => random.pick(&near),
@@ -264,17 +277,7 @@ fn count_lines(day: &Day, whole: &Ended, tally: &mut Tally) -> Result<(), String
 }
 
 /// Replays a trace at once, and in pieces, which must come to the same.
-fn use_trace(
-    cuts: Cuts,
-    make: fn(&mut Random) -> Vec<u8>,
-    random: &mut Random,
-    tally: &mut Tally,
-) -> Result<(), String> {
-    let day = Day {
-        current: traces::start(random),
-        stored: traces::start(random),
-        trace: make(random),
-    };
+fn use_day(day: Day, cuts: Cuts, random: &mut Random, tally: &mut Tally) -> Result<(), String> {
     compare(&day.whole(), tally)?;
     let whole = day.by_second();
     count_lines(&day, &whole, tally)?;
@@ -306,7 +309,17 @@ fn use_source(make: &Make, random: &mut Random, tally: &mut Tally) -> Result<(),
         Extension(make) => use_extension(make, random, tally),
         Contradiction(make) => use_contradiction(make, random, tally),
         Two(ref kind) => use_two(kind, random, tally),
-        Trace(cuts, make) => use_trace(cuts, make, random, tally),
+        Trace(cuts, make) => {
+            let (current, stored) = (traces::start(random), traces::start(random));
+            let trace = make(random);
+            let day = Day {
+                current,
+                stored,
+                trace,
+            };
+            use_day(day, cuts, random, tally)
+        }
+        From(cuts, make) => use_day(make(random), cuts, random, tally),
     }
 }
 

@@ -1,18 +1,19 @@
-//! Schedules, well formed and not.
+//! Well-formed schedules, and what is asked of their words.
 
 use leap::ffi::Words;
 
+use crate::days::{month_end, month_of, month_start, LAST_EXPIRY, LAST_MONTH};
 use crate::random::Random;
 
 pub const COUNT: usize = 512;
 pub const EXPIRY: usize = 513;
-pub const LAST_MONTH: u32 = 2_400;
 pub const MAX_GAP: u32 = 999;
 pub const MAX_LEAPS: usize = 256;
 
 /// A leap's month and sign word.
 pub type Leap = (u32, u32);
 
+/// The words of these leaps and an expiry day.
 pub fn words_of(leaps: &[Leap], expiry: u32) -> Box<Words> {
     let mut words = Box::new([0; 514]);
     for (place, leap) in words.chunks_exact_mut(2).zip(leaps) {
@@ -23,6 +24,11 @@ pub fn words_of(leaps: &[Leap], expiry: u32) -> Box<Words> {
     words
 }
 
+/// The words of these leaps that expire on the first day of a month.
+pub fn to_month(leaps: &[Leap], month: u32) -> Box<Words> {
+    words_of(leaps, month_start(month))
+}
+
 /// The used places, at most 256 of them.
 pub fn leaps_of(words: &Words) -> Vec<Leap> {
     let used = MAX_LEAPS.min(words[COUNT] as usize);
@@ -31,6 +37,45 @@ pub fn leaps_of(words: &Words) -> Vec<Leap> {
         .take(used)
         .map(|p| (p[0], p[1]))
         .collect()
+}
+
+/// The last month of a list's leaps, or 0.
+pub fn last_leap(words: &Words) -> u32 {
+    match MAX_LEAPS.min(words[COUNT] as usize) {
+        0 => 0,
+        used => words[2 * used - 2],
+    }
+}
+
+/// The month that a list's expiry lies in.
+pub fn expiry_month(words: &Words) -> u32 {
+    month_of(words[EXPIRY])
+}
+
+/// The latest expiry after a last leap in that month.
+pub fn latest_expiry(last: u32) -> u32 {
+    month_end(LAST_MONTH.min(last + MAX_GAP))
+}
+
+/// An expiry in a month, after a last leap in that one or before it: often the
+/// month's first day, or its second, or its last.
+pub fn expiry_in(random: &mut Random, last: u32, month: u32) -> u32 {
+    let (first, end) = (month_start(month), month_end(month));
+    let earliest = first.max(month_start(last) + 1);
+    let day = match random.below(6) {
+        0..=2 => first,
+        3 => first + 1,
+        4 => end,
+        _ => random.from(earliest, end),
+    };
+    day.clamp(earliest, end)
+}
+
+/// The list with its expiry rounded down to its month, or in the month after its
+/// last leap's where that leaves no gap: one that can be read.
+pub fn on_a_first(words: &Words) -> Box<Words> {
+    let month = expiry_month(words).max(last_leap(words) + 1);
+    to_month(&leaps_of(words), month)
 }
 
 #[derive(Clone, Copy)]
@@ -48,32 +93,43 @@ fn sign(random: &mut Random, signs: Signs) -> u32 {
     }
 }
 
-/// A list with at most that many leaps, its gaps drawn by `gap`, and often one
-/// that ends at month 2400.
+/// Leaps, at most that many, with gaps drawn by `gap`.
+fn leaps(
+    random: &mut Random,
+    most: usize,
+    signs: Signs,
+    gap: impl Fn(&mut Random) -> u32,
+) -> Vec<Leap> {
+    let mut leaps: Vec<Leap> = Vec::new();
+    let mut month = 0;
+    while leaps.len() < most {
+        month += gap(random);
+        if month >= LAST_MONTH {
+            break;
+        }
+        leaps.push((month, sign(random, signs)));
+    }
+    leaps
+}
+
+/// A list of such leaps, and often one that ends at month 2400.
 fn list(
     random: &mut Random,
     most: usize,
     signs: Signs,
     gap: impl Fn(&mut Random) -> u32,
 ) -> Box<Words> {
-    let mut leaps: Vec<Leap> = Vec::new();
-    let mut month = 0;
-    while leaps.len() < most {
-        let next = month + gap(random);
-        if next >= LAST_MONTH {
-            break;
-        }
-        month = next;
-        leaps.push((month, sign(random, signs)));
-    }
-    let furthest = LAST_MONTH.min(month + MAX_GAP);
-    let expiry = match random.below(4) {
+    let leaps = leaps(random, most, signs, &gap);
+    let last = leaps.last().map_or(0, |leap| leap.0);
+    let furthest = LAST_MONTH.min(last + MAX_GAP);
+    let month = match random.below(5) {
         0 => furthest,
-        1 => random.from(month + 1, furthest),
-        2 => month + 1,
-        _ => furthest.min(month + gap(random)),
+        1 => random.from(last + 1, furthest),
+        2 => last + 1,
+        3 => last,
+        _ => furthest.min(last + gap(random)),
     };
-    words_of(&leaps, expiry)
+    words_of(&leaps, expiry_in(random, last, month))
 }
 
 /// Lists as they are in use, of up to 40 leaps.
@@ -114,190 +170,72 @@ pub fn sparse(random: &mut Random) -> Box<Words> {
     })
 }
 
-/// Lists of 01 and the smallest ones: A, B, N, `5?`, `6+5?`, `1?`, `1+1?`, `1-1?`.
-pub fn known(random: &mut Random) -> Box<Words> {
+/// Few leaps, or as many as there may be, and an expiry at an edge: the soonest day
+/// and the next, about the end of the last leap's month, about the first day and the
+/// last of the month 999 after it, and about month 2400's first.
+pub fn edged(random: &mut Random) -> Box<Words> {
+    let widest = random.pick(&[1, 12, 300, 999]);
+    let most = random.pick(&[0, 0, 1, 2, 3, 256]);
+    let leaps = leaps(random, most, Signs::Mixed, |r| r.from(1, widest));
+    let last = leaps.last().map_or(0, |leap| leap.0);
+    let (soonest, latest) = (month_start(last) + 1, latest_expiry(last));
+    let edge = random.pick(&[
+        soonest,
+        month_end(last),
+        month_start(last + MAX_GAP),
+        latest,
+        LAST_EXPIRY,
+    ]);
+    let day = edge + random.pick(&[0, 0, 1, 2]) - random.pick(&[0, 0, 1]);
+    words_of(&leaps, day.clamp(soonest, latest))
+}
+
+/// The official leaps, of which there are 27, as far as they are asked for.
+fn official(count: usize) -> Vec<Leap> {
     const GAPS: [u32; 27] = [
         6, 6, 12, 12, 12, 12, 12, 12, 12, 18, 12, 12, 24, 30, 24, 12, 18, 12, 12, 18, 18, 18, 84,
         36, 42, 36, 18,
     ];
-    let official = |count: usize, last_gap| {
-        let mut month = 0;
-        let leaps: Vec<Leap> = GAPS[..count]
-            .iter()
-            .map(|gap| {
-                month += gap;
-                (month, 0)
-            })
-            .collect();
-        words_of(&leaps, month + last_gap)
+    let mut month = 0;
+    let leap = |gap: &u32| {
+        month += gap;
+        (month, 0)
     };
-    match random.below(8) {
-        0 => official(19, 5),
-        1 => official(27, 59),
-        2 => words_of(&[(6, 1)], 11),
-        3 => words_of(&[], 5),
-        4 => words_of(&[(6, 0)], 11),
-        5 => words_of(&[], 1),
-        6 => words_of(&[(1, 0)], 2),
-        _ => words_of(&[(1, 1)], 2),
+    GAPS[..count].iter().map(leap).collect()
+}
+
+/// Lists of 01 and the smallest ones: A, B, N, `5?`, `6+5?`, `1?`, `1+1?`, `1-1?`; and
+/// those of 10/14: without leaps to 41360 and to 41318, and B to a 28th.
+pub fn known(random: &mut Random) -> Box<Words> {
+    match random.below(11) {
+        0 => to_month(&official(19), 275),
+        1 => to_month(&official(27), 599),
+        2 => to_month(&[(6, 1)], 11),
+        3 => to_month(&[], 5),
+        4 => to_month(&[(6, 0)], 11),
+        5 => to_month(&[], 1),
+        6 => to_month(&[(1, 0)], 2),
+        7 => to_month(&[(1, 1)], 2),
+        8 => words_of(&[], 41_360),
+        9 => words_of(&[], 41_318),
+        _ => words_of(&official(27), month_start(599) + 27),
     }
 }
 
 pub fn any(random: &mut Random) -> Box<Words> {
-    match random.below(8) {
+    match random.below(9) {
         0 => dense(random),
         1 => negative(random),
         2 => sparse(random),
         3 => known(random),
+        4 => edged(random),
         _ => ordinary(random),
     }
 }
 
-/// A list with an unused place.
-fn with_room(random: &mut Random) -> Box<Words> {
-    loop {
-        let words = any(random);
-        if words[COUNT] < MAX_LEAPS as u32 {
-            return words;
-        }
-    }
-}
-
-/// The index of an unused place's month word: often the first or the last one.
-fn unused_place(random: &mut Random, words: &Words) -> usize {
-    let count = words[COUNT] as usize;
-    let any = count + random.below(MAX_LEAPS - count);
-    2 * random.pick(&[count, MAX_LEAPS - 1, any])
-}
-
-/// The index of a used place's month word, if there is one and by chance.
-fn used_place(random: &mut Random, words: &Words) -> Option<usize> {
-    let count = words[COUNT] as usize;
-    if count == 0 || random.one_in(2) {
-        return None;
-    }
-    let any = random.below(count);
-    Some(2 * random.pick(&[0, count - 1, any]))
-}
-
-/// A count that is over 256, or not the number of leaps.
-pub fn bad_count(random: &mut Random) -> Box<Words> {
-    if random.one_in(8) {
-        let mut words = dense(random);
-        words[COUNT] = random.pick(&[257, 258, 512, 65_536 + 256, u32::MAX]);
-        return words;
-    }
-    let mut words = with_room(random);
-    let count = words[COUNT];
-    words[COUNT] = match random.below(7) {
-        0 => 257,
-        1 => u32::MAX,
-        2 => 65_536 + count,
-        3 => 257 + count,
-        4 => 1 << 31 | count,
-        5 if count > 0 => count - 1,
-        _ => count + 1,
-    };
-    words
-}
-
-/// A sign word other than 0 or 1 in a used place, or than 0 in an unused one.
-pub fn bad_sign(random: &mut Random) -> Box<Words> {
-    const OTHERS: [u32; 8] = [1, 2, 3, 256, 65_536, 65_537, 1 << 31, u32::MAX];
-    let mut words = with_room(random);
-    match used_place(random, &words) {
-        Some(used) => words[used + 1] = random.pick(&OTHERS[1..]),
-        None => {
-            let unused = unused_place(random, &words);
-            words[unused + 1] = random.pick(&OTHERS);
-        }
-    }
-    words
-}
-
-/// A month word that is over 2400 or over 16 bits, in a used place or not.
-pub fn bad_month(random: &mut Random) -> Box<Words> {
-    let mut words = with_room(random);
-    let place = used_place(random, &words);
-    let place = place.unwrap_or_else(|| unused_place(random, &words));
-    let valid = random.pick(&[words[place], words[0]]);
-    words[place] = match random.below(6) {
-        0 => 65_536,
-        1 => u32::MAX,
-        2 => 65_536 + valid,
-        3 => 1 << 31 | valid,
-        4 => LAST_MONTH + 1,
-        _ => 65_536 * random.from(1, 65_535) + valid,
-    };
-    words
-}
-
-/// An unused place with a month that would be in order.
-pub fn bad_unused(random: &mut Random) -> Box<Words> {
-    let mut words = with_room(random);
-    let unused = unused_place(random, &words);
-    words[unused] = match random.below(4) {
-        0 => 1,
-        1 => words[EXPIRY],
-        2 => (words[EXPIRY] + 1).min(LAST_MONTH),
-        _ => random.from(1, LAST_MONTH),
-    };
-    words
-}
-
-/// A gap of 0 or 1000, or months that fall.
-pub fn bad_gap(random: &mut Random) -> Box<Words> {
-    loop {
-        let words = any(random);
-        let mut leaps = leaps_of(&words);
-        let mut expiry = words[EXPIRY];
-        let at = random.below(leaps.len() + 1);
-        let before = if at == 0 { 0 } else { leaps[at - 1].0 };
-        let month = match random.below(5) {
-            0 => before,
-            1 => before + 1_000,
-            2 => before + random.from(1_000, 1_400),
-            3 => before.saturating_sub(1),
-            _ => random.from(0, before),
-        };
-        match leaps.get_mut(at) {
-            None => expiry = month,
-            Some(leap) => {
-                // Those after it keep their gaps.
-                let shift = i64::from(month) - i64::from(leap.0);
-                let moved = |m: u32| u32::try_from(i64::from(m) + shift).unwrap_or(0);
-                leaps[at..].iter_mut().for_each(|l| l.0 = moved(l.0));
-                expiry = moved(expiry);
-            }
-        }
-        // Past month 2400 it would be refused for that as well.
-        if expiry <= LAST_MONTH || random.one_in(8) {
-            return words_of(&leaps, expiry);
-        }
-    }
-}
-
-/// An expiry of 0, over 2400, or over 16 bits.
-pub fn bad_expiry(random: &mut Random) -> Box<Words> {
-    let mut words = any(random);
-    let expiry = words[EXPIRY];
-    words[EXPIRY] = match random.below(6) {
-        0 => 0,
-        1 => u32::MAX,
-        2 => 65_536 + expiry,
-        3 => 65_536,
-        4 => 1 << 31 | expiry,
-        _ => {
-            // In reach of the last leap, and one month too far.
-            let last = random.from(LAST_MONTH + 1 - MAX_GAP, LAST_MONTH);
-            words = words_of(&[(900, 0), (1_401, 1), (last, 0)], 0);
-            LAST_MONTH + 1
-        }
-    };
-    if random.one_in(16) {
-        *words = [0; 514];
-    }
-    words
+/// A list that expires on the first of a month, as those that are read do.
+pub fn readable(random: &mut Random) -> Box<Words> {
+    on_a_first(&any(random))
 }
 
 #[cfg(test)]
@@ -309,7 +247,7 @@ mod tests {
     fn good_lists_are_well_formed() {
         let mut random = Random::new(1);
         for _ in 0..2_000 {
-            for make in [ordinary, dense, negative, sparse, known] {
+            for make in [ordinary, dense, negative, sparse, edged, known, readable] {
                 let words = make(&mut random);
                 assert!(well_formed(&Raw::from_words(&words)), "{words:?}");
             }
@@ -317,16 +255,15 @@ mod tests {
     }
 
     #[test]
-    fn bad_ones_are_not() {
-        let mut random = Random::new(2);
-        let bad = [
-            bad_count, bad_sign, bad_month, bad_unused, bad_gap, bad_expiry,
-        ];
+    fn readable_ones_read_back() {
+        let mut random = Random::new(8);
         for _ in 0..2_000 {
-            for make in bad {
-                let words = make(&mut random);
-                assert!(!well_formed(&Raw::from_words(&words)), "{words:?}");
-            }
+            let words = readable(&mut random);
+            let mut out = [0; 752];
+            let (number, length) = second::write_text(&Raw::from_words(&words), &mut out);
+            assert_eq!(number, 0);
+            let back = second::read_text(&out[..length as usize]).schedule;
+            assert_eq!(back.to_words(), *words);
         }
     }
 }

@@ -2,17 +2,17 @@
 
 use leap::ffi::Words;
 
-use crate::call::{second, Call, Kind, Question};
+use crate::call::{second, Call, Question};
+use crate::edits::{edited, edits, lower, moved, WAYS};
 use crate::many::Many;
 use crate::pairs::Pair;
-use crate::schedules::{leaps_of, COUNT, EXPIRY, LAST_MONTH, MAX_LEAPS};
 use crate::smaller;
 use crate::texts::compared_length;
-use crate::times::{month_start, nearest_month};
 
 pub trait Shrink: Clone {
     /// Smaller cases of the same kind, the boldest first. Each has fewer bytes
-    /// or simpler ones, or a smaller sum of its numbers, so this has an end.
+    /// or simpler ones, or a smaller sum of its schedules' words, or the same and a
+    /// smaller sum of its other numbers, so this has an end.
     fn smaller(&self) -> Box<dyn Iterator<Item = Self> + '_>;
 }
 
@@ -23,117 +23,6 @@ pub fn shrink<T: Shrink>(mut case: T, fails: impl Fn(&T) -> bool) -> T {
             return case;
         };
         case = smaller;
-    }
-}
-
-/// Lower numbers: 0, the half, .., one less; and those with a bit cleared.
-fn lower(value: u64) -> Vec<u64> {
-    let steps = (0..64).map(|k| value >> k).take_while(|&step| step > 0);
-    let bits = (0..64).map(|k| 1 << k).filter(|&bit| value & bit != 0);
-    steps.chain(bits).map(|step| value - step).collect()
-}
-
-fn lower_word(value: u32) -> Vec<u32> {
-    lower(value.into()).into_iter().map(|v| v as u32).collect()
-}
-
-/// A way to make a schedule smaller.
-#[derive(Clone, Copy)]
-enum Edit {
-    /// Take out a used place, and move those after it, and the expiry, so many
-    /// months back. Unused places move up too, or stay.
-    Drop(usize, u32, Unused),
-    /// Move the months from a used place on, and the expiry, so many back.
-    Close(usize, u32),
-    Set(usize, u32),
-}
-
-#[derive(Clone, Copy)]
-enum Unused {
-    Move,
-    Stay,
-}
-
-fn used(words: &Words) -> usize {
-    MAX_LEAPS.min(words[COUNT] as usize)
-}
-
-fn edits(words: &Words) -> Vec<Edit> {
-    let set = |at: usize| {
-        let values = lower_word(words[at]).into_iter();
-        values.map(move |value| Edit::Set(at, value))
-    };
-    let mut edits: Vec<Edit> = set(COUNT).collect();
-    let mut before = 0;
-    let months = leaps_of(words).into_iter().map(|leap| leap.0);
-    for (place, month) in months.chain([words[EXPIRY]]).enumerate() {
-        let gap = month.saturating_sub(before);
-        if place < used(words) {
-            edits.push(Edit::Drop(place, gap, Unused::Move));
-            edits.push(Edit::Drop(place, gap, Unused::Stay));
-            edits.push(Edit::Drop(place, 0, Unused::Move));
-            edits.push(Edit::Drop(place, 0, Unused::Stay));
-        }
-        let gaps = lower_word(gap).into_iter();
-        edits.extend(gaps.map(|g| Edit::Close(place, gap - g)));
-        before = month;
-    }
-    edits.extend(set(EXPIRY).chain((0..COUNT).flat_map(set)));
-    edits
-}
-
-fn edited(words: &Words, edit: Edit) -> Box<Words> {
-    let mut words = Box::new(*words);
-    let used = used(&words);
-    let (from, by) = match edit {
-        Edit::Set(at, value) => {
-            words[at] = value;
-            return words;
-        }
-        Edit::Close(place, by) => (place, by),
-        Edit::Drop(place, by, unused) => {
-            let end = match unused {
-                Unused::Move => COUNT,
-                Unused::Stay => 2 * used,
-            };
-            if place < used {
-                words.copy_within(2 * place + 2..end, 2 * place);
-                words[end - 2..end].fill(0);
-                words[COUNT] -= 1;
-            }
-            (place, by)
-        }
-    };
-    for place in from..used {
-        words[2 * place] = words[2 * place].saturating_sub(by);
-    }
-    words[EXPIRY] = words[EXPIRY].saturating_sub(by);
-    words
-}
-
-/// The question, moved with the months that an edit moves.
-fn moved(question: Question, edit: Edit) -> Vec<Question> {
-    let by = match edit {
-        Edit::Drop(_, by, _) | Edit::Close(_, by) => by,
-        Edit::Set(..) => 0,
-    };
-    let days_back = |mjd: u64| {
-        let month = nearest_month(mjd);
-        month_start(month) - month_start(month.saturating_sub(by))
-    };
-    let with = |first| Question { first, ..question };
-    match question.kind {
-        Kind::TaiToUtc => {
-            const DAY: u64 = 86_400_000_000;
-            let back =
-                DAY * days_back((41_317 + question.first / DAY).min(month_start(LAST_MONTH)));
-            let tai = question.first.saturating_sub(back);
-            vec![with(tai), with(tai.saturating_sub(1_000_000)), question]
-        }
-        _ => vec![
-            with(question.first.saturating_sub(days_back(question.first))),
-            question,
-        ],
     }
 }
 
@@ -190,9 +79,9 @@ impl Shrink for Call {
             }
             Call::Ask(words, question) => {
                 let fewer = edits(words).into_iter().flat_map(|edit| {
+                    let questions = moved(*question, words, edit).into_iter();
                     let words = edited(words, edit);
-                    let ask = move |question| Call::Ask(words.clone(), question);
-                    moved(*question, edit).into_iter().map(ask)
+                    questions.map(move |question| Call::Ask(words.clone(), question))
                 });
                 let numbers = smaller_questions(*question);
                 Box::new(fewer.chain(numbers.map(|q| Call::Ask(words.clone(), q))))
@@ -262,7 +151,8 @@ impl Shrink for Pair {
                 shorter: shorter.clone(),
                 question,
             };
-            moved(self.question, edit).into_iter().map(pair)
+            let questions = moved(self.question, &self.shorter, edit);
+            questions.into_iter().map(pair)
         });
         let longer = edits(&self.longer).into_iter().map(|edit| Pair {
             longer: edited(&self.longer, edit),
@@ -332,10 +222,10 @@ impl Shrink for Many {
             .map(|(from, to)| without(self, from, to));
         let lists = edits(&self.words).into_iter().flat_map(move |edit| {
             let words = edited(&self.words, edit);
-            (0..3).map(move |way| Many {
+            (0..WAYS).map(move |way| Many {
                 words: words.clone(),
                 ..each(self, |question| {
-                    let ways = moved(question, edit);
+                    let ways = moved(question, &self.words, edit);
                     ways[way.min(ways.len() - 1)]
                 })
             })

@@ -5,7 +5,8 @@ use leap::ffi;
 
 use crate::call::Format;
 use crate::random::Random;
-use crate::{lists, pairs, schedules, texts, traces};
+use crate::replays::Day;
+use crate::{lists, malformed, pairs, schedules, texts, traces};
 
 /// Lists, schedules or traces of one kind, and their share of the calls.
 pub struct Source {
@@ -26,8 +27,10 @@ pub enum Make {
     Contradiction(MakePair),
     /// Compared, and the longer handed back.
     Two(texts::Kind),
-    /// Replayed, whole and in pieces.
+    /// Replayed, whole and in pieces, from words of any kind.
     Trace(Cuts, fn(&mut Random) -> Vec<u8>),
+    /// A trace with the words that it starts from, replayed in the same way.
+    From(Cuts, fn(&mut Random) -> Day),
 }
 
 /// The ways in which a trace is cut.
@@ -39,10 +42,10 @@ pub enum Cuts {
     All,
 }
 
-use Make::{Contradiction, Extension, List, Trace, Two, Words};
+use Make::{Contradiction, Extension, From, List, Trace, Two, Words};
 
 #[rustfmt::skip]
-pub const SOURCES: [Source; 42] = [
+pub const SOURCES: [Source; 45] = [
     Source { name: "text, valid", share: 3, make: List(Format::Text, lists::text::valid) },
     Source { name: "text, damaged", share: 6, make: List(Format::Text, lists::text::broken) },
     Source { name: "text, near a limit", share: 3, make: List(Format::Text, lists::text::limit) },
@@ -56,13 +59,15 @@ pub const SOURCES: [Source; 42] = [
     Source { name: "schedules, dense", share: 8, make: Words(schedules::dense) },
     Source { name: "schedules, negative", share: 8, make: Words(schedules::negative) },
     Source { name: "schedules, sparse", share: 8, make: Words(schedules::sparse) },
-    Source { name: "schedules, of 01", share: 6, make: Words(schedules::known) },
-    Source { name: "malformed, count", share: 3, make: Words(schedules::bad_count) },
-    Source { name: "malformed, sign", share: 3, make: Words(schedules::bad_sign) },
-    Source { name: "malformed, month", share: 3, make: Words(schedules::bad_month) },
-    Source { name: "malformed, unused place", share: 2, make: Words(schedules::bad_unused) },
-    Source { name: "malformed, gap", share: 4, make: Words(schedules::bad_gap) },
-    Source { name: "malformed, expiry", share: 3, make: Words(schedules::bad_expiry) },
+    Source { name: "schedules, expiring at an edge", share: 12, make: Words(schedules::edged) },
+    Source { name: "schedules, of 01 and 10/14", share: 6, make: Words(schedules::known) },
+    Source { name: "malformed, count", share: 3, make: Words(malformed::bad_count) },
+    Source { name: "malformed, sign", share: 3, make: Words(malformed::bad_sign) },
+    Source { name: "malformed, month", share: 3, make: Words(malformed::bad_month) },
+    Source { name: "malformed, unused place", share: 2, make: Words(malformed::bad_unused) },
+    Source { name: "malformed, gap", share: 3, make: Words(malformed::bad_gap) },
+    Source { name: "malformed, expiry", share: 5, make: Words(malformed::bad_expiry) },
+    Source { name: "malformed, no expiry day", share: 3, make: Words(malformed::no_expiry) },
     Source { name: "pairs, extended", share: 8, make: Extension(pairs::extended) },
     Source { name: "pairs, cut short", share: 6, make: Extension(pairs::cut_short) },
     Source { name: "pairs, contradicting", share: 4, make: Contradiction(pairs::contradicting) },
@@ -81,6 +86,7 @@ pub const SOURCES: [Source; 42] = [
     Source { name: "two lists, one a damaged copy", share: 7, make: Two(texts::DAMAGED) },
     Source { name: "traces, lists that extend each other", share: 48, make: Trace(Cuts::Some, traces::extended_day) },
     Source { name: "traces, lists that do not", share: 48, make: Trace(Cuts::Some, traces::contradicting_day) },
+    Source { name: "traces, from a list that is held", share: 10, make: From(Cuts::Some, traces::held_day) },
     Source { name: "traces, damaged", share: 48, make: Trace(Cuts::Some, traces::damaged_day) },
     Source { name: "traces, long lines", share: 15, make: Trace(Cuts::Some, traces::long_lines) },
     Source { name: "traces, random bytes", share: 15, make: Trace(Cuts::Some, traces::random_bytes) },

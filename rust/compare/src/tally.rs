@@ -3,16 +3,23 @@
 use std::collections::BTreeMap;
 use std::fmt;
 
+use crate::call::{Call, Outcome};
 use crate::call::{EXTENDS, EXTENDS_NOT, FIRST_IS_LONGER, SECOND_IS_LONGER, VERDICTS};
-use crate::replays;
+use crate::{expiries, replays};
 
-/// The numbers that 01, 7/14 and 12/14 let each function return, or put into an
-/// array.
+const NOT_WELL_FORMED: u8 = 11;
+const NO_GAP: u8 = 17;
+
+/// Room for any list, and more.
+pub const ANY_LIST: usize = 1_028;
+
+/// The numbers that 01, 7/14, 10/14 and 12/14 let each function return, or put into
+/// an array.
 const RESULTS: [(&str, &[u8]); 19] = [
     ("read_text", &[0, 1, 2, 3, 4, 5, 6]),
     ("read_nybbles", &[0, 1, 3, 4, 5, 6]),
-    ("write_text", &[0, 7, 11]),
-    ("write_nybbles", &[0, 7, 11]),
+    ("write_text", &[0, 7, 11, 17]),
+    ("write_nybbles", &[0, 7, 11, 17]),
     ("dtai", &[0, 8, 10, 11]),
     ("utc_to_tai", &[0, 8, 9, 10, 11]),
     ("tai_to_utc", &[0, 8, 10, 11]),
@@ -35,7 +42,11 @@ pub const TWO_LISTS: &str = "two text lists";
 /// They were compared with every room from 0 to what they need.
 pub const EVERY_ROOM: &str = "two text lists with every room up to what they need";
 /// Their comparison was as long as any can be.
-pub const LONGEST: &str = "a comparison of 4629 bytes";
+pub const LONGEST: &str = "a comparison of 4633 bytes";
+
+/// A writer refused with 17 where there was no room, and where there was.
+const NO_GAP_NO_ROOM: &str = "a list that is refused with 17 in no room";
+const NO_GAP_IN_ROOM: &str = "a list that is refused with 17 in room for any";
 
 /// A trace was replayed.
 pub const TRACES: &str = "traces";
@@ -54,7 +65,13 @@ pub const CUT_SHORT: &str = "a line of which the start was kept";
 fn to_meet() -> impl Iterator<Item = &'static str> {
     let verdicts = VERDICTS.iter().map(|verdict| verdict.1);
     let others = [FIRST_IS_LONGER, SECOND_IS_LONGER, EXTENDS, EXTENDS_NOT];
-    let lists = [TWO_LISTS, EVERY_ROOM, LONGEST];
+    let lists = [
+        TWO_LISTS,
+        EVERY_ROOM,
+        LONGEST,
+        NO_GAP_NO_ROOM,
+        NO_GAP_IN_ROOM,
+    ];
     let lines = replays::KINDS.iter().map(|kind| kind.0);
     let traces = [
         EMPTY_TRACES,
@@ -67,6 +84,7 @@ fn to_meet() -> impl Iterator<Item = &'static str> {
     verdicts
         .chain(others)
         .chain(lists)
+        .chain(expiries::names())
         .chain(lines)
         .chain(traces)
 }
@@ -93,8 +111,23 @@ impl Tally {
         self.turn = source;
     }
 
-    pub fn add(&mut self, name: &'static str, number: u8) {
-        self.add_many(name, &[number]);
+    /// A call with this outcome.
+    pub fn count(&mut self, call: &Call, outcome: &Outcome) {
+        self.add_many(call.name(), &[outcome.number]);
+        if let Some(verdict) = call.verdict(outcome) {
+            self.meet(verdict);
+        }
+        let place = match call {
+            Call::Ask(words, question) if outcome.number != NOT_WELL_FORMED => {
+                expiries::asked(words, question)
+            }
+            Call::Write(_, _, 0) if outcome.number == NO_GAP => Some(NO_GAP_NO_ROOM),
+            Call::Write(_, _, ANY_LIST..) if outcome.number == NO_GAP => Some(NO_GAP_IN_ROOM),
+            _ => None,
+        };
+        if let Some(place) = place {
+            self.meet(place);
+        }
     }
 
     /// One call with these numbers.
@@ -118,8 +151,7 @@ impl Tally {
         self.sources.iter().map(|source| source.1).sum()
     }
 
-    /// The sources, the results of 01, 7/14 and 12/14 and the other things that no
-    /// call had.
+    /// The sources, the results of the papers and the other things that no call had.
     pub fn missing(&self) -> Vec<String> {
         let sources = self.sources.iter().filter(|source| source.1 == 0);
         let results = RESULTS

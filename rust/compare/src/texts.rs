@@ -5,15 +5,19 @@ use leap::ffi::Words;
 use second::read_text;
 
 use crate::call::{second, Call};
+use crate::days::{month_start, LAST_MONTH};
 use crate::lists::text;
 use crate::pairs::{self, extends, parting};
 use crate::random::Random;
-use crate::schedules::{self, leaps_of, words_of, Leap, EXPIRY, LAST_MONTH, MAX_GAP, MAX_LEAPS};
+use crate::schedules::{
+    expiry_month, last_leap, leaps_of, on_a_first, readable, to_month, Leap, EXPIRY, MAX_GAP,
+    MAX_LEAPS,
+};
 
 pub type Two = (Vec<u8>, Vec<u8>);
 
 /// Bytes that hold any comparison, as `leap.h` says.
-pub const COMPARISON_ROOM: usize = 4_629;
+pub const COMPARISON_ROOM: usize = 4_633;
 
 /// How long a comparison is, by the second program; 0 if it is refused.
 pub fn compared_length(first: &[u8], second_list: &[u8]) -> usize {
@@ -52,13 +56,11 @@ fn in_any_order<T>(random: &mut Random, one: T, other: T) -> (T, T) {
     }
 }
 
+/// Two lists in any order. One that expires within a month is spelt as if it expired
+/// on the first of it, or of the next where there would be no gap.
 fn spelt(random: &mut Random, one: &Words, other: &Words) -> Two {
-    in_any_order(random, text::of(one), text::of(other))
-}
-
-/// The last month of a list's leaps, or 0.
-fn last_leap(words: &Words) -> u32 {
-    leaps_of(words).last().map_or(0, |leap| leap.0)
+    let [one, other] = [one, other].map(|words| text::of(&on_a_first(words)));
+    in_any_order(random, one, other)
 }
 
 /// What `make` makes in one of many trials.
@@ -81,12 +83,13 @@ pub const SAME: Kind = Kind {
 pub const LATER_EXPIRY: Kind = Kind {
     make: |random| {
         let (one, other) = tried(random, |random| {
-            let one = schedules::any(random);
-            let latest = LAST_MONTH.min(last_leap(&one) + MAX_GAP);
-            let mut other = one.clone();
-            let later = random.from(one[EXPIRY], latest);
-            other[EXPIRY] = random.pick(&[one[EXPIRY] + 1, latest, later]);
-            (one[EXPIRY] < other[EXPIRY] && other[EXPIRY] <= latest).then_some((one, other))
+            let one = readable(random);
+            let (month, latest) = (expiry_month(&one), last_leap(&one) + MAX_GAP);
+            let latest = LAST_MONTH.min(latest);
+            let later = random.from(month, latest);
+            let later = random.pick(&[month + 1, latest, later]);
+            let other = to_month(&leaps_of(&one), later);
+            (month < later && later <= latest).then_some((one, other))
         });
         spelt(random, &one, &other)
     },
@@ -100,33 +103,39 @@ pub const LATER_EXPIRY: Kind = Kind {
 pub const LEAP_AT_EXPIRY: Kind = Kind {
     make: |random| {
         let (shorter, longer) = tried(random, |random| {
-            let shorter = schedules::any(random);
+            let shorter = readable(random);
             let mut leaps = leaps_of(&shorter);
-            let month = shorter[EXPIRY];
+            let month = expiry_month(&shorter);
             if leaps.len() == MAX_LEAPS || month == LAST_MONTH {
                 return None;
             }
             leaps.push((month, random.from(0, 1)));
             let expiry = random.from(month + 1, LAST_MONTH.min(month + MAX_GAP));
-            Some((shorter, words_of(&leaps, expiry)))
+            Some((shorter, to_month(&leaps, expiry)))
         });
         spelt(random, &shorter, &longer)
     },
     is: |two| {
         either_way(two, |shorter, longer| {
             let (leaps, further) = (leaps_of(shorter), leaps_of(longer));
+            let at_expiry = |leap: &Leap| month_start(leap.0) == shorter[EXPIRY];
             further
                 .strip_prefix(&leaps[..])
-                .is_some_and(|more| matches!(more, [(month, _)] if *month == shorter[EXPIRY]))
+                .is_some_and(|more| matches!(more, [leap] if at_expiry(leap)))
         })
     },
 };
 
 pub const EXTENDED: Kind = Kind {
     make: |random| {
-        let make = random.pick(&[pairs::extended, pairs::cut_short]);
-        let (longer, shorter) = make(random);
-        spelt(random, &longer, &shorter)
+        tried(random, |random| {
+            let make = random.pick(&[pairs::extended, pairs::cut_short]);
+            let (longer, shorter) = make(random);
+            let (longer, shorter) = (on_a_first(&longer), on_a_first(&shorter));
+            // A gap that was put in may reach a leap of the longer one.
+            let extends = extends(&longer, &shorter);
+            extends.then(|| spelt(random, &longer, &shorter))
+        })
     },
     is: |two| either_way(two, extends),
 };
@@ -135,7 +144,7 @@ pub const EXTENDED: Kind = Kind {
 /// left out.
 fn parted_at(random: &mut Random, which: fn(usize) -> usize) -> Two {
     let (one, other) = tried(random, |random| {
-        let one = schedules::any(random);
+        let one = readable(random);
         let mut leaps = leaps_of(&one);
         let at = which(leaps.len().checked_sub(1)?);
         let month = leaps[at].0;
@@ -150,8 +159,8 @@ fn parted_at(random: &mut Random, which: fn(usize) -> usize) -> Two {
         // Both know the month at which they part.
         let end = leaps.last().map_or(0, |leap| leap.0).max(month);
         let later = random.from(end + 1, end + 60);
-        let expiry = random.pick(&[one[EXPIRY], end + 1, later]);
-        let other = words_of(&leaps, expiry);
+        let expiry = random.pick(&[expiry_month(&one), end + 1, later]);
+        let other = to_month(&leaps, expiry);
         let lists = pairs::is_list(&other) && parting(&one, &other).is_some();
         lists.then_some((one, other))
     });
@@ -184,20 +193,27 @@ pub const PARTED_AT_LAST: Kind = Kind {
 
 pub const CONTRADICTING: Kind = Kind {
     make: |random| {
-        let (one, other) = pairs::contradicting(random);
-        spelt(random, &one, &other)
+        tried(random, |random| {
+            let (one, other) = pairs::contradicting(random);
+            let (one, other) = (on_a_first(&one), on_a_first(&other));
+            // Rounded down, one may no longer know the month at which they part.
+            parting(&one, &other).map(|_| spelt(random, &one, &other))
+        })
     },
     is: |two| parts(two, |_, _| true),
 };
 
-/// 256 leaps each, in 512 different months. One in eight is the longest
-/// comparison: all months but each list's first have four digits.
+/// 256 leaps each, in 512 different months. One in eight is mostly the longest
+/// comparison: all months but each list's first have four digits, and the expiry
+/// MJDs six.
 pub const NONE_SHARED: Kind = Kind {
     make: |random| {
         let (one, other) = tried(random, |random| {
             let mut months: Vec<u32> = (1..LAST_MONTH).collect();
+            let mut least = 1;
             if random.one_in(8) {
                 months = (998..=1_509).collect();
+                least = 1_950;
             }
             while months.len() > 2 * MAX_LEAPS {
                 months.swap_remove(random.below(months.len()));
@@ -214,10 +230,8 @@ pub const NONE_SHARED: Kind = Kind {
             }
             let [one, other] = leaps.map(|leaps| {
                 let last = leaps.last().map_or(0, |leap: &Leap| leap.0);
-                words_of(
-                    &leaps,
-                    random.from(last + 1, LAST_MONTH.min(last + MAX_GAP)),
-                )
+                let latest = LAST_MONTH.min(last + MAX_GAP);
+                to_month(&leaps, random.from(least.max(last + 1), latest))
             });
             (pairs::is_list(&one) && pairs::is_list(&other)).then_some((one, other))
         });

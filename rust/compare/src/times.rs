@@ -1,60 +1,37 @@
 //! Questions at the edges of a schedule.
 
-use std::sync::OnceLock;
-
 use leap::ffi::Words;
-use second::calendar;
 
 use crate::call::{Kind, Question};
+use crate::days::{self, FIRST_DAY, LAST_EXPIRY, LAST_MONTH};
 use crate::random::Random;
-use crate::schedules::{leaps_of, EXPIRY, LAST_MONTH};
+use crate::schedules::{leaps_of, EXPIRY};
 
-const SECOND: u64 = 1_000_000;
-const DAY: u64 = 86_400 * SECOND;
-const FIRST_DAY: u64 = 41_317;
+pub const SECOND: u64 = 1_000_000;
+pub const DAY: u64 = 86_400 * SECOND;
 
-/// The MJD of a month's first day; the last month's for any after it.
-pub fn month_start(month: u32) -> u64 {
-    static STARTS: OnceLock<Vec<u64>> = OnceLock::new();
-    let starts = STARTS.get_or_init(|| (0..=LAST_MONTH).map(calendar::month_start).collect());
-    starts[month.min(LAST_MONTH) as usize]
-}
-
-/// The month whose first day is nearest, from 1972 on.
-pub fn nearest_month(mjd: u64) -> u32 {
-    let (mut low, mut high) = (0, LAST_MONTH);
-    while high - low > 1 {
-        let middle = (low + high) / 2;
-        if month_start(middle) <= mjd {
-            low = middle;
-        } else {
-            high = middle;
-        }
-    }
-    if mjd.abs_diff(month_start(low)) <= mjd.abs_diff(month_start(high)) {
-        low
-    } else {
-        high
-    }
+fn month_start(month: u32) -> u64 {
+    days::month_start(month).into()
 }
 
 fn near(random: &mut Random, value: u64, steps: &[i64]) -> u64 {
     value.wrapping_add_signed(random.pick(steps))
 }
 
-/// A month that matters: a leap's, or the expiry.
-fn edge_month(random: &mut Random, words: &Words) -> u32 {
+/// A day that matters: the first of a leap's month, or the expiry.
+fn edge(random: &mut Random, words: &Words) -> u64 {
     let leaps = leaps_of(words);
     if leaps.is_empty() || random.one_in(3) {
-        words[EXPIRY]
+        words[EXPIRY].into()
     } else {
-        random.pick(&leaps).0
+        month_start(random.pick(&leaps).0)
     }
 }
 
 fn day(random: &mut Random, words: &Words) -> u64 {
+    let (first, expiry) = (u64::from(FIRST_DAY), u64::from(words[EXPIRY]));
     match random.below(12) {
-        0 => random.pick(&[0, 1, FIRST_DAY - 1, 114_364, 114_365, 114_366, 114_367]),
+        0 => random.pick(&[0, 1, first - 1, 114_364, 114_365, 114_366, 114_367]),
         1 => random.pick(&[
             u64::MAX,
             u64::MAX - 1,
@@ -62,19 +39,19 @@ fn day(random: &mut Random, words: &Words) -> u64 {
             1 << 32 | 41_498,
             1 << 16 | 41_498,
         ]),
-        2 => FIRST_DAY,
+        2 => first,
         3 => random.any_size(),
-        4 => FIRST_DAY + u64::from(random.from(0, 73_050)),
-        5 => FIRST_DAY + random.bits() % (month_start(words[EXPIRY]) - FIRST_DAY + 1),
-        6 => near(random, month_start(words[EXPIRY]), &[-2, -1, -1, -1, 0, 1]),
+        4 => first + u64::from(random.from(0, 73_050)),
+        5 => first + random.bits() % (expiry.saturating_sub(first) + 1),
+        6 => near(random, expiry, &[-2, -1, -1, -1, 0, 1]),
         7 => {
             // Months about the Februaries of 1972 and 2100.
             let month = random.pick(&[1, 2, 1_536, 1_537, 1_538]);
             near(random, month_start(month), &[-1, 0])
         }
         _ => {
-            let month = edge_month(random, words);
-            near(random, month_start(month), &[-2, -1, -1, -1, 0, 1])
+            let edge = edge(random, words);
+            near(random, edge, &[-2, -1, -1, -1, 0, 1])
         }
     }
 }
@@ -126,38 +103,35 @@ fn nanos(random: &mut Random, words: &Words, mjd: u64) -> u64 {
     }
 }
 
-/// TAI at the start of a month, by 01's formula.
-fn tai_at(words: &Words, month: u32) -> u64 {
+/// TAI at the start of a day, by 01's formula; of the last expiry for one after it.
+pub fn tai_at(words: &Words, mjd: u64) -> u64 {
+    let day = mjd.clamp(FIRST_DAY.into(), LAST_EXPIRY.into());
     let dtai: i64 = leaps_of(words)
         .iter()
-        .filter(|leap| leap.0 <= month)
+        .filter(|leap| month_start(leap.0) <= day)
         .map(|leap| if leap.1 == 0 { 1 } else { -1 })
         .sum();
-    (DAY * (month_start(month) - FIRST_DAY)).wrapping_add_signed((10 + dtai) * SECOND as i64)
+    (DAY * (day - u64::from(FIRST_DAY))).wrapping_add_signed((10 + dtai) * SECOND as i64)
 }
 
 fn tai(random: &mut Random, words: &Words) -> u64 {
+    const STEPS: [i64; 9] = [
+        -2_000_000, -1_000_001, -1_000_000, -999_999, -1, 0, 1, 999_999, 1_000_000,
+    ];
     match random.below(12) {
         0 => random.pick(&[0, 1, 9_999_999, 10_000_000, 10_000_001]),
         1 => random.pick(&[u64::MAX, u64::MAX - 1, 1 << 63]),
         2 => random.any_size(),
-        3 => random.bits() % tai_at(words, LAST_MONTH),
-        4 => random.bits() % tai_at(words, words[EXPIRY]).saturating_add(SECOND),
-        5 => {
-            // The end of what is known: Z at 86,399,000,000.
-            let end = tai_at(words, words[EXPIRY]).wrapping_sub(SECOND);
-            near(random, end, &[-1_000_000, -1, 0, 1, 1_000_000, 2_000_000])
+        3 => random.bits() % tai_at(words, month_start(LAST_MONTH)),
+        4 => random.bits() % tai_at(words, words[EXPIRY].into()).saturating_add(SECOND),
+        5 | 6 => {
+            // The end of Z, and a second before it, where it may be cut off.
+            let end = tai_at(words, words[EXPIRY].into());
+            near(random, end, &STEPS)
         }
         _ => {
-            let month = edge_month(random, words);
-            let edge = tai_at(words, month);
-            near(
-                random,
-                edge,
-                &[
-                    -2_000_000, -1_000_001, -1_000_000, -999_999, -1, 0, 1, 999_999, 1_000_000,
-                ],
-            )
+            let edge = edge(random, words);
+            near(random, tai_at(words, edge), &STEPS)
         }
     }
 }
@@ -170,7 +144,26 @@ pub fn kinds(random: &mut Random) -> [Kind; 10] {
     }
 }
 
+/// A time of Z at its cut-offs, at its end or a second later, or just before or after
+/// one of these; in that many parts of a microsecond.
+fn end_of_knowledge(random: &mut Random, parts: u64) -> u64 {
+    let seconds = random.pick(&[85_399, 86_399, 86_400, 86_401]);
+    near(random, seconds * SECOND * parts, &[-1, 0, 0, 1])
+}
+
 pub fn question(random: &mut Random, words: &Words, kind: Kind) -> Question {
+    let parts = match kind {
+        Kind::UtcToTai | Kind::UtcToUts => Some(1),
+        Kind::UtsToUtc => Some(1_000),
+        Kind::Dtai | Kind::TaiToUtc => None,
+    };
+    if let Some(parts) = parts.filter(|_| random.one_in(8)) {
+        return Question {
+            kind,
+            first: u64::from(words[EXPIRY]).wrapping_sub(1),
+            second: end_of_knowledge(random, parts),
+        };
+    }
     let first = match kind {
         Kind::TaiToUtc => tai(random, words),
         _ => day(random, words),

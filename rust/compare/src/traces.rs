@@ -6,8 +6,9 @@ use leap::ffi::Words;
 use crate::call::Kind;
 use crate::lists::text;
 use crate::random::Random;
-use crate::schedules::{self, leaps_of, words_of, EXPIRY};
-use crate::times;
+use crate::replays::Day;
+use crate::schedules::{self, expiry_month, leaps_of, on_a_first, to_month};
+use crate::{malformed, pairs, times};
 
 /// A line of at most so many bytes may be one.
 const LONGEST_LINE: usize = 4_096;
@@ -47,14 +48,14 @@ const NO_LINES: [&[u8]; 24] = [
 fn known_up_to(list: &Words, expiry: u32) -> Box<Words> {
     let mut leaps = leaps_of(list);
     leaps.retain(|leap| leap.0 < expiry);
-    words_of(&leaps, expiry)
+    to_month(&leaps, expiry)
 }
 
 /// Lists of which one of any two extends the other.
 fn extending(random: &mut Random) -> Vec<Words> {
-    let longest = schedules::any(random);
+    let longest = schedules::readable(random);
     let mut lists: Vec<Words> = (0..random.below(4))
-        .map(|_| *known_up_to(&longest, random.from(1, longest[EXPIRY])))
+        .map(|_| *known_up_to(&longest, random.from(1, expiry_month(&longest))))
         .collect();
     lists.push(*longest);
     lists
@@ -63,7 +64,7 @@ fn extending(random: &mut Random) -> Vec<Words> {
 /// Lists that mostly contradict each other.
 fn unrelated(random: &mut Random) -> Vec<Words> {
     (0..random.from(1, 4))
-        .map(|_| *schedules::any(random))
+        .map(|_| *schedules::readable(random))
         .collect()
 }
 
@@ -202,6 +203,32 @@ pub fn contradicting_day(random: &mut Random) -> Vec<u8> {
     day_over(random, &lists, 1)
 }
 
+/// A day that starts from a list with any expiry, and maybe stores one that it
+/// extends. Most questions are near the edges of these, and a list that is used is
+/// the same with its expiry on the first of a month.
+pub fn held_day(random: &mut Random) -> Day {
+    let (current, stored) = match random.below(3) {
+        0 => pairs::extended(random),
+        1 => pairs::cut_short(random),
+        _ => (schedules::edged(random), schedules::any(random)),
+    };
+    let mut lines = Vec::new();
+    for _ in 0..random.pick(&[4, 8, 12]) {
+        let list = random.pick(&[&current, &stored]).clone();
+        lines.push(match random.below(10) {
+            0 => used(random, &[*on_a_first(&list)]),
+            1 => b"S".to_vec(),
+            2 => b"Z".to_vec(),
+            _ => question(random, &list),
+        });
+    }
+    Day {
+        current,
+        stored,
+        trace: joined(random, lines),
+    }
+}
+
 /// A day about half of whose lines are damaged.
 pub fn damaged_day(random: &mut Random) -> Vec<u8> {
     let lists = unrelated(random);
@@ -233,7 +260,7 @@ pub fn random_bytes(random: &mut Random) -> Vec<u8> {
 /// A trace of few bytes, which is then cut at every one of them.
 pub fn short(random: &mut Random) -> Vec<u8> {
     loop {
-        let lists = [*schedules::known(random)];
+        let lists = [*on_a_first(&schedules::known(random))];
         let lines: Vec<Vec<u8>> = (0..random.below(6))
             .map(|_| match random.below(6) {
                 0 => random.pick(&NO_LINES).to_vec(),
@@ -252,12 +279,13 @@ pub fn short(random: &mut Random) -> Vec<u8> {
 /// Words that a day starts from: blank, a list, or words that stand for none.
 pub fn start(random: &mut Random) -> Box<Words> {
     let bad = [
-        schedules::bad_count,
-        schedules::bad_sign,
-        schedules::bad_month,
-        schedules::bad_unused,
-        schedules::bad_gap,
-        schedules::bad_expiry,
+        malformed::bad_count,
+        malformed::bad_sign,
+        malformed::bad_month,
+        malformed::bad_unused,
+        malformed::bad_gap,
+        malformed::bad_expiry,
+        malformed::no_expiry,
     ];
     match random.below(6) {
         0 | 1 => Box::new([0; 514]),

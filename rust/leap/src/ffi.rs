@@ -6,7 +6,7 @@
 //! reference, which is all that the header asks of its callers.
 
 /// A schedule as `leap.h` lays it out: month and sign word of each of the 256
-/// places, the count, the expiry.
+/// places, the count, the expiry MJD.
 pub type Words = [u32; 514];
 
 /// A part of a caller's bytes as `leap.h` lays it out.

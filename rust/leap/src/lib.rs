@@ -15,7 +15,7 @@
 //! # Ok::<(), leap::ReadError>(())
 //! ```
 //!
-//! What has no answer is refused, with one of the thirteen numbers of [`Refusal`]:
+//! What has no answer is refused, with one of the fourteen numbers of [`Refusal`]:
 //!
 //! ```
 //! use leap::{Mjd, ReadError, Refusal, Schedule};
@@ -26,7 +26,7 @@
 //!
 //! let schedule = Schedule::from_text(b"6+5?")?;
 //! assert_eq!(schedule.dtai(Mjd(41_316)), Err(Refusal::Before1972));
-//! // Month 11, December 1972, is the first that the list does not know.
+//! // 1 December 1972, the start of month 11, is the first day that the list does not know.
 //! assert_eq!(schedule.dtai(Mjd(41_652)), Err(Refusal::NotKnown));
 //! # Ok::<(), ReadError>(())
 //! ```
@@ -51,19 +51,21 @@
 //! # Ok::<(), leap::ReadError>(())
 //! ```
 //!
-//! A schedule made from parts is checked by whatever it is asked:
+//! A schedule made from parts, which may expire on any day ([`Schedule::new`]), is
+//! checked by whatever it is asked:
 //!
 //! ```
 //! use leap::{Leap, Mjd, Refusal, Schedule, Sign};
 //!
 //! let leaps = [Leap { month: 6, sign: Sign::Positive }];
-//! let schedule = Schedule::new(&leaps, 11);
+//! let schedule = Schedule::new(&leaps, Mjd(41_652));
 //! assert_eq!(schedule.to_text(), Ok("6+5?".to_string()));
 //! assert_eq!(schedule.to_nybbles(), Ok(vec![0x90, 0xf4]));
 //!
-//! let falling = Schedule::new(&leaps, 5);
-//! assert_eq!(falling.to_text(), Err(Refusal::NotWellFormed));
-//! assert_eq!(falling.dtai(Mjd(41_317)), Err(Refusal::NotWellFormed));
+//! // It expires on 1 July 1972, so that it does not know of its own leap.
+//! let early = Schedule::new(&leaps, Mjd(41_499));
+//! assert_eq!(early.to_text(), Err(Refusal::NotWellFormed));
+//! assert_eq!(early.dtai(Mjd(41_317)), Err(Refusal::NotWellFormed));
 //! ```
 //!
 //! Two lists are compared, and of two that do not contradict each other the longer
@@ -73,7 +75,7 @@
 //! use leap::Refusal;
 //!
 //! let comparison = leap::compare(b"6+6+5?", b"6+12+5?")?;
-//! assert_eq!(comparison, "12 + 0\n18 ? +\n= 17 23\ncontradict\n");
+//! assert_eq!(comparison, "12 + 0\n18 ? +\n= 41834 42017\ncontradict\n");
 //!
 //! assert_eq!(leap::longer(b"6?", b"6+5?"), Ok(&b"6+5?"[..]));
 //! assert_eq!(leap::longer(b"6+6+5?", b"6+12+5?"), Err(Refusal::Contradiction));

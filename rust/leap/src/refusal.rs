@@ -3,7 +3,7 @@
 use std::error::Error;
 use std::fmt;
 
-/// The thirteen refusals, each with its number.
+/// The fourteen refusals, each with its number.
 #[derive(Clone, Copy, Debug, PartialEq, Eq, PartialOrd, Ord, Hash)]
 #[repr(u8)]
 pub enum Refusal {
@@ -32,6 +32,8 @@ pub enum Refusal {
     NotWellFormed = 11,
     /// Two lists contradict each other.
     Contradiction = 16,
+    /// Rounding the expiry down to its month leaves a gap of 0.
+    NoGap = 17,
     /// No line of a trace. It is printed, as `!20`, and returned by no call.
     NoLine = 20,
 }
@@ -39,8 +41,8 @@ pub enum Refusal {
 use Refusal::*;
 
 impl Refusal {
-    /// All thirteen, by number.
-    pub const ALL: [Refusal; 13] = [
+    /// All fourteen, by number.
+    pub const ALL: [Refusal; 14] = [
         EndsEarly,
         NotAllowed,
         BadGap,
@@ -53,10 +55,11 @@ impl Refusal {
         NotKnown,
         NotWellFormed,
         Contradiction,
+        NoGap,
         NoLine,
     ];
 
-    /// The refusal's number: 1 to 11, 16 or 20.
+    /// The refusal's number: 1 to 11, 16, 17 or 20.
     pub fn number(self) -> u8 {
         self as u8
     }
@@ -82,6 +85,7 @@ impl fmt::Display for Refusal {
             NotKnown => "expired or not yet known",
             NotWellFormed => "the schedule is not well formed",
             Contradiction => "the lists contradict each other",
+            NoGap => "rounding the expiry down to its month leaves a gap of 0",
             NoLine => "no line of a trace",
         })
     }

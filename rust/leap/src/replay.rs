@@ -1,7 +1,7 @@
 //! A branch's day, replayed from its trace.
 
 use crate::ffi;
-use crate::schedule::{answer, Schedule};
+use crate::schedule::{answer, Mjd, Schedule};
 
 /// Enough of a line that is not complete, as `leap.h` says.
 const HELD: usize = 4_097;
@@ -49,7 +49,7 @@ impl Default for Replay {
 impl Replay {
     /// The start of a day: both lists are blank, and every `Q` prints `!11`.
     pub fn new() -> Replay {
-        let blank = Schedule::new(&[], 0);
+        let blank = Schedule::new(&[], Mjd(0));
         Replay::from_lists(blank.clone(), blank)
     }
 
@@ -58,9 +58,9 @@ impl Replay {
     /// `!11`.
     ///
     /// ```
-    /// # use leap::{Replay, Schedule};
+    /// # use leap::{Mjd, Replay, Schedule};
     /// let list = Schedule::from_text(b"6+5?")?;
-    /// let mut day = Replay::from_lists(Schedule::new(&[], 0), list.clone());
+    /// let mut day = Replay::from_lists(Schedule::new(&[], Mjd(0)), list.clone());
     /// let mut printed = Vec::new();
     /// day.feed(b"Z\nQ 41498 7\n", &mut printed);
     /// assert_eq!(printed, b"41498 7000\n");

@@ -48,20 +48,21 @@ const BLANK: Words = [0; 514];
 const TEXT_ROOM: usize = 752;
 const NYBBLES_ROOM: usize = 390;
 
-/// Leaps and an expiry month, well formed or not. Where it is not, every
-/// question is refused with [`Refusal::NotWellFormed`].
+/// Leaps and an expiry day, well formed or not. Where it is not, every question is
+/// refused with [`Refusal::NotWellFormed`].
 #[derive(Clone, PartialEq, Eq)]
 pub struct Schedule {
     words: Box<Words>,
 }
 
 impl Schedule {
-    /// Reads a text list.
+    /// Reads a text list, which expires on the first day of a month.
     ///
     /// ```
-    /// # use leap::{Refusal, Schedule};
+    /// # use leap::{Mjd, Refusal, Schedule};
     /// let schedule = Schedule::from_text(b"6+6-5?")?;
-    /// assert_eq!(schedule.expiry(), Ok(17));
+    /// // Month 17 is June 1973.
+    /// assert_eq!(schedule.expiry_mjd(), Ok(Mjd(41_834)));
     /// let error = Schedule::from_text(b"6+6").unwrap_err();
     /// assert_eq!((error.refusal, error.place), (Refusal::EndsEarly, 3));
     /// # Ok::<(), leap::ReadError>(())
@@ -70,7 +71,8 @@ impl Schedule {
         read(list, ffi::read_text)
     }
 
-    /// Reads a nybble list, upper half of each byte first.
+    /// Reads a nybble list, upper half of each byte first. It expires on the first
+    /// day of a month.
     ///
     /// ```
     /// # use leap::{Refusal, Schedule};
@@ -84,9 +86,36 @@ impl Schedule {
         read(list, ffi::read_nybbles)
     }
 
-    /// The schedule of these leaps and expiry month, as they are. One of more
-    /// than 256 leaps keeps their count, and so isn't well formed.
-    pub fn new(leaps: &[Leap], expiry: u32) -> Schedule {
+    /// The schedule of these leaps and expiry day, as they are. One of more than 256
+    /// leaps keeps their count, and so isn't well formed; nor is one that expires
+    /// after day `u32::MAX`, which then stands in its place.
+    ///
+    /// The expiry may be any day of a month, as in the official tables. That of a
+    /// text or nybble list is the first of a month: what is written reads back
+    /// rounded down to it, as a schedule that the written one extends.
+    ///
+    /// ```
+    /// # use leap::{Leap, Mjd, Refusal, Schedule, Sign, UtcMicros, UtsNanos};
+    /// let leaps = [Leap { month: 6, sign: Sign::Positive }];
+    /// // 28 December 1972. The day before it is known to its last microsecond.
+    /// let exact = Schedule::new(&leaps, Mjd(41_679));
+    /// let last = exact.utc_to_uts(Mjd(41_678), UtcMicros(86_399_999_999));
+    /// assert_eq!(last, Ok(UtsNanos(86_399_999_999_000)));
+    /// assert_eq!(exact.dtai(Mjd(41_679)), Err(Refusal::NotKnown));
+    ///
+    /// assert_eq!(exact.to_text(), Ok("6+5?".to_string()));
+    /// let rounded = Schedule::from_text(b"6+5?")?;
+    /// assert_eq!(rounded.expiry_mjd(), Ok(Mjd(41_652)));
+    /// assert_eq!(rounded.dtai(Mjd(41_652)), Err(Refusal::NotKnown));
+    /// assert_eq!(exact.extends(&rounded), Ok(true));
+    ///
+    /// // 3 July 1972, in the month of the leap: there is no gap to write.
+    /// let soon = Schedule::new(&leaps, Mjd(41_501));
+    /// assert_eq!(soon.dtai(Mjd(41_500)), Ok(11));
+    /// assert_eq!(soon.to_text(), Err(Refusal::NoGap));
+    /// # Ok::<(), leap::ReadError>(())
+    /// ```
+    pub fn new(leaps: &[Leap], expiry: Mjd) -> Schedule {
         let mut words = BLANK;
         for (place, leap) in words.chunks_exact_mut(2).zip(leaps.iter().take(PLACES)) {
             place[0] = leap.month;
@@ -96,7 +125,7 @@ impl Schedule {
             };
         }
         words[COUNT] = u32::try_from(leaps.len()).unwrap_or(u32::MAX);
-        words[EXPIRY] = expiry;
+        words[EXPIRY] = u32::try_from(expiry.0).unwrap_or(u32::MAX);
         Schedule::from_words(words)
     }
 
@@ -148,12 +177,12 @@ impl Schedule {
         }))
     }
 
-    /// The first month that a well-formed schedule does not know.
-    pub fn expiry(&self) -> Result<u32, Refusal> {
-        self.check().map(|()| self.words[EXPIRY])
+    /// The first day that a well-formed schedule does not know.
+    pub fn expiry_mjd(&self) -> Result<Mjd, Refusal> {
+        self.check().map(|()| Mjd(self.words[EXPIRY].into()))
     }
 
-    /// The schedule's text list.
+    /// The schedule's text list, with the expiry rounded down to its month.
     pub fn to_text(&self) -> Result<String, Refusal> {
         let mut room = [0; TEXT_ROOM];
         let length = self.write_text(&mut room)?;
@@ -161,7 +190,7 @@ impl Schedule {
         Ok(room[..length].iter().copied().map(char::from).collect())
     }
 
-    /// The schedule's nybble list.
+    /// The schedule's nybble list, with the expiry rounded down to its month.
     pub fn to_nybbles(&self) -> Result<Vec<u8>, Refusal> {
         let mut room = [0; NYBBLES_ROOM];
         let length = self.write_nybbles(&mut room)?;
@@ -169,7 +198,8 @@ impl Schedule {
     }
 
     /// Writes the text list to the start of `out` and gives its length. Bytes
-    /// beyond it, or all where the writing is refused, stay.
+    /// beyond it, or all where the writing is refused, stay. Refuses, in this order,
+    /// with [`Refusal::NotWellFormed`], [`Refusal::NoGap`] or [`Refusal::OutputShort`].
     ///
     /// ```
     /// # use leap::{Refusal, Schedule};
@@ -271,11 +301,15 @@ impl Schedule {
     }
 }
 
-/// Shows the text list, or all words where there is none.
+/// Shows the text list, and the expiry where that is another than the list's; or all
+/// words where there is no list.
 impl fmt::Debug for Schedule {
     fn fmt(&self, f: &mut fmt::Formatter<'_>) -> fmt::Result {
         match self.to_text() {
-            Ok(list) => write!(f, "Schedule({list})"),
+            Ok(list) if Schedule::from_text(list.as_bytes()).as_ref() == Ok(self) => {
+                write!(f, "Schedule({list})")
+            }
+            Ok(list) => write!(f, "Schedule({list} and MJD {})", self.words[EXPIRY]),
             Err(_) => write!(f, "Schedule({:?})", self.words),
         }
     }
@@ -285,7 +319,10 @@ impl fmt::Debug for Schedule {
 pub(crate) fn answer(number: u8) -> Result<(), Refusal> {
     match number {
         0 => Ok(()),
-        _ => Err(Refusal::from_number(number).expect("the archive refuses with 1 to 11, 16 or 20")),
+        _ => {
+            Err(Refusal::from_number(number)
+                .expect("the archive refuses with 1 to 11, 16, 17 or 20"))
+        }
     }
 }
 

@@ -1,7 +1,8 @@
 //! Two lists: the wrapper on the example of request 7/14, and on answers worked
-//! by hand from the papers.
+//! by hand from the papers. An expiry is its month's first day: months 5, 6, 11, 17
+//! and 23 start on MJD 41469, 41499, 41652, 41834 and 42017.
 
-use leap::{Refusal, Schedule};
+use leap::{Leap, Mjd, Refusal, Schedule, Sign};
 
 const HEADER: &str = include_str!("../../../include/leap.h");
 
@@ -19,15 +20,15 @@ fn parts(first: &str, second: &str, lines: &str) {
 
 #[test]
 fn lists_are_compared() {
-    let lines = "12 + 0\n18 ? +\n= 17 23\ncontradict\n";
+    let lines = "12 + 0\n18 ? +\n= 41834 42017\ncontradict\n";
     parts("6+6+5?", "6+12+5?", lines);
-    let lines = "12 0 +\n18 + ?\n= 23 17\ncontradict\n";
+    let lines = "12 0 +\n18 + ?\n= 42017 41834\ncontradict\n";
     parts("6+12+5?", "6+6+5?", lines);
-    parts("6?", "6+5?", "6 ? +\n= 6 11\nextends 2\n");
-    parts("6+5?", "6?", "6 + ?\n= 11 6\nextends 1\n");
+    parts("6?", "6+5?", "6 ? +\n= 41499 41652\nextends 2\n");
+    parts("6+5?", "6?", "6 + ?\n= 41652 41499\nextends 1\n");
     parts("11?", "6+5?", "6 0 +\ncontradict\n");
     parts("6+5?", "6-5?", "6 + -\ncontradict\n");
-    parts("5?", "6?", "= 5 6\nextends 2\n");
+    parts("5?", "6?", "= 41469 41499\nextends 2\n");
     parts("6+5?", "6+5?", "same\n");
 }
 
@@ -40,10 +41,11 @@ fn the_longest_comparison_fits() {
     let comparison = compared(&first, &second).expect("both lists read");
     assert_eq!(comparison.lines().count(), 514);
     assert!(comparison.starts_with("998 0 +\n999 + 0\n1000 0 +\n"));
-    assert!(comparison.ends_with("\n1509 + 0\n= 2399 2400\ncontradict\n"));
-    assert_eq!(comparison.len(), 510 * 9 + 2 * 8 + 12 + 11);
-    assert_eq!(comparison.len(), 4_629);
-    assert!(HEADER.contains("LEAP_COMPARISON_ROOM = 4629,"));
+    // Months 2399 and 2400: 31 days before MJD 114366, and that day.
+    assert!(comparison.ends_with("\n1509 + 0\n= 114335 114366\ncontradict\n"));
+    assert_eq!(comparison.len(), 510 * 9 + 2 * 8 + 16 + 11);
+    assert_eq!(comparison.len(), 4_633);
+    assert!(HEADER.contains("LEAP_COMPARISON_ROOM = 4633,"));
     let (first, second) = (first.as_bytes(), second.as_bytes());
     assert_eq!(leap::longer(first, second), Err(Refusal::Contradiction));
 }
@@ -124,14 +126,14 @@ fn a_refusal_hands_back_the_empty_start_of_the_first() {
 
 #[test]
 fn a_short_room_stays() {
-    let whole = b"6 ? +\n= 6 11\nextends 2\n";
+    let whole = b"6 ? +\n= 41499 41652\nextends 2\n";
     for room in 0..whole.len() {
         let (mut out, mut written) = (vec![7; room], 99);
         let number = leap::ffi::compare_text(b"6?", b"6+5?", &mut out, &mut written);
         assert_eq!((number, written), (7, 0));
         assert_eq!(out, vec![7; room]);
     }
-    let (mut out, mut written) = ([7; 30], 99);
+    let (mut out, mut written) = ([7; 40], 99);
     let number = leap::ffi::compare_text(b"6?", b"6+5?", &mut out, &mut written);
     assert_eq!((number, written), (0, whole.len() as u64));
     assert!(out.starts_with(whole) && out[whole.len()..].iter().all(|&b| b == 7));
@@ -162,5 +164,40 @@ fn extension() {
         ("6+5?", "7?"),
     ] {
         assert_eq!(extends(longer, shorter), Ok(false), "{longer} {shorter}");
+    }
+}
+
+/// Lists that expire within a month, which no text list does.
+#[test]
+fn extension_to_the_day() {
+    let to_day = |months: &[u32], expiry| {
+        let leap = |&month: &u32| Leap {
+            month,
+            sign: Sign::Positive,
+        };
+        let leaps: Vec<Leap> = months.iter().map(leap).collect();
+        Schedule::new(&leaps, Mjd(expiry))
+    };
+    // 28 December 1972, in month 11.
+    let stored = to_day(&[6], 41_679);
+    for (longer, yes) in [
+        (to_day(&[6], 41_678), false),
+        (to_day(&[6], 41_679), true),
+        (to_day(&[6], 41_680), true),
+        // Of month 11 it knows that there is no leap, of month 12 nothing.
+        (to_day(&[6, 11], 41_700), false),
+        (to_day(&[6, 12], 41_700), true),
+        (to_day(&[], 41_700), false),
+    ] {
+        assert_eq!(longer.extends(&stored), Ok(yes), "{longer:?}");
+    }
+    // Month 6 starts on MJD 41499: a list that expires on that day does not know it.
+    for (shorter, yes) in [
+        (to_day(&[], 41_498), true),
+        (to_day(&[], 41_499), true),
+        (to_day(&[], 41_500), false),
+        (to_day(&[6], 41_500), true),
+    ] {
+        assert_eq!(stored.extends(&shorter), Ok(yes), "{shorter:?}");
     }
 }

@@ -18,6 +18,19 @@ fn lists() -> Vec<Schedule> {
     LISTS.into_iter().map(read).collect()
 }
 
+/// `6+5?` and `6-5?` with other expiries: the day after the leap's month starts, the
+/// last day of a month, the second, and one in between.
+fn within_a_month() -> Vec<Schedule> {
+    let expiries = [41_500, 41_529, 41_531, 41_651, 41_653, 41_679];
+    let with = |expiry| {
+        lists().into_iter().take(2).map(move |list| {
+            let leaps: Vec<Leap> = list.leaps().expect("it is well formed").collect();
+            Schedule::new(&leaps, Mjd(expiry))
+        })
+    };
+    expiries.into_iter().flat_map(with).collect()
+}
+
 /// `6+5?` with one word changed, so that it isn't well formed.
 fn malformed() -> Vec<Schedule> {
     let changes = [
@@ -25,7 +38,10 @@ fn malformed() -> Vec<Schedule> {
         (0, 65_536 + 6),
         (512, 257),
         (512, 0),
-        (513, 2_401),
+        (513, 11),
+        (513, 41_499),
+        (513, 71_937),
+        (513, 114_367),
         (511, 1),
     ];
     let changed = |(at, value): (usize, u32)| {
@@ -38,10 +54,10 @@ fn malformed() -> Vec<Schedule> {
 
 /// Days about the leaps and ends of the lists, and far ones.
 fn days() -> Vec<Mjd> {
-    // Months 0 to 6, 11, 270, 275, 999, 1998 and 2400.
+    // Months 0 to 7, 11, 270, 275, 999, 1998 and 2400, and 28 December 1972.
     let starts = [
-        41_317, 41_348, 41_377, 41_408, 41_438, 41_469, 41_499, 41_652, 49_534, 49_687, 71_723,
-        102_129, 114_366,
+        41_317, 41_348, 41_377, 41_408, 41_438, 41_469, 41_499, 41_530, 41_652, 41_679, 49_534,
+        49_687, 71_723, 102_129, 114_366,
     ];
     let near = |day: u64| [day - 2, day - 1, day, day + 1];
     let far = [0, 1 << 32, 1 << 63, u64::MAX];
@@ -102,6 +118,7 @@ fn assert_as_single(s: &Schedule) {
 #[test]
 fn answers_and_refusals_are_those_of_single_questions() {
     lists().iter().for_each(assert_as_single);
+    within_a_month().iter().for_each(assert_as_single);
     // The questions are such that each of the refusals is met.
     let answers = lists()[0].utc_to_uts_many(&instants());
     assert!(answers.iter().any(Result::is_ok));
@@ -117,10 +134,11 @@ fn with_256_leaps() {
         sign: Sign::Negative,
     };
     let leaps: Vec<Leap> = (1..=256).map(leap).collect();
-    let list = Schedule::new(&leaps, 257);
+    // Month 257 is June 1993, and month 256 May, MJD 49108.
+    let list = Schedule::new(&leaps, Mjd(49_139));
     assert_eq!(list.check(), Ok(()));
     assert_as_single(&list);
-    // Month 256 is May 1993, MJD 49108; 256 leaps down from 10.
+    // 256 leaps down from 10.
     let last = [Mjd(49_107), Mjd(49_108)];
     assert_eq!(list.dtai_many(&last), [Ok(-245), Ok(-246)]);
     // 86,400 x 7,791 - 246 seconds, and a microsecond before.

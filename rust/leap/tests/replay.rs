@@ -1,7 +1,7 @@
 //! The replay of a trace: the wrapper on the example of request 12/14, and on
 //! answers worked by hand from the papers.
 
-use leap::{ffi, Replay, Schedule};
+use leap::{ffi, Leap, Mjd, Replay, Schedule, Sign};
 
 const HEADER: &str = include_str!("../../../include/leap.h");
 
@@ -10,7 +10,7 @@ fn list(text: &[u8]) -> Schedule {
 }
 
 fn blank() -> Schedule {
-    Schedule::new(&[], 0)
+    Schedule::new(&[], Mjd(0))
 }
 
 /// What a day's trace prints in pieces of that many bytes.
@@ -105,6 +105,24 @@ fn lists_that_a_day_goes_on_from() {
     assert_eq!((day.current(), day.stored()), (&list(b"5?"), &plus));
     assert_eq!(Replay::new(), Replay::from_lists(blank(), blank()));
     assert_eq!(Replay::default(), Replay::new());
+}
+
+/// A list that expires on 28 December 1972 is handed in: the day before is known whole.
+#[test]
+fn a_list_that_expires_within_a_month() {
+    let leap = Leap {
+        month: 6,
+        sign: Sign::Positive,
+    };
+    let held = Schedule::new(&[leap], Mjd(41_679));
+    let mut day = Replay::from_lists(held.clone(), blank());
+    let mut printed = Vec::new();
+    day.feed(
+        b"Q 41678 86399999999\nQ 41678 86400000000\nQ 41679 0\nS\nL 6+5?\nQ 41678 0\nZ\n",
+        &mut printed,
+    );
+    assert_eq!(printed, b"41678 86399999999000\n!9\n!10\n!10\n");
+    assert_eq!((day.current(), day.stored()), (&held, &held));
 }
 
 #[test]

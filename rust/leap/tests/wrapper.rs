@@ -1,4 +1,6 @@
-//! The wrapper on the figures of 01, whose values stand here as the paper has them.
+//! The wrapper on the figures of 01 and of request 10/14, whose values stand here as
+//! the papers have them. An expiry is its month's first day: months 5, 11, 275, 599
+//! and 999 start on MJD 41469, 41652, 49687, 59549 and 71723.
 
 use leap::{Leap, Mjd, ReadError, Refusal, Schedule, Sign, TaiMicros, UtcMicros, UtsNanos};
 
@@ -20,22 +22,24 @@ fn positive(month: u32) -> Leap {
     }
 }
 
+/// The schedule without leaps that expires on this day.
+fn none(expiry: u64) -> Schedule {
+    Schedule::new(&[], Mjd(expiry))
+}
+
 fn read_error(refusal: Refusal, place: u64) -> Result<Schedule, ReadError> {
     Err(ReadError { refusal, place })
 }
 
-/// The schedule whose gaps, up to the expiry, are these.
-fn of_gaps(gaps: impl IntoIterator<Item = u32>) -> Schedule {
+/// The schedule of positive leaps with these gaps that expires on this day.
+fn of_gaps(gaps: impl IntoIterator<Item = u32>, expiry: u64) -> Schedule {
     let mut month = 0;
-    let mut leaps: Vec<Leap> = gaps
-        .into_iter()
-        .map(|gap| {
-            month += gap;
-            positive(month)
-        })
-        .collect();
-    let expiry = leaps.pop().map_or(0, |last| last.month);
-    Schedule::new(&leaps, expiry)
+    let leap = |gap| {
+        month += gap;
+        positive(month)
+    };
+    let leaps: Vec<Leap> = gaps.into_iter().map(leap).collect();
+    Schedule::new(&leaps, Mjd(expiry))
 }
 
 #[test]
@@ -62,13 +66,13 @@ fn refusals_have_the_header_s_numbers() {
     assert_eq!(named, in_header);
     assert_eq!(
         Refusal::ALL.map(Refusal::number),
-        [1, 2, 3, 4, 5, 6, 7, 8, 9, 10, 11, 16, 20]
+        [1, 2, 3, 4, 5, 6, 7, 8, 9, 10, 11, 16, 17, 20]
     );
     for refusal in Refusal::ALL {
         assert_eq!(Refusal::from_number(refusal.number()), Some(refusal));
     }
     assert_eq!(Refusal::from_number(0), None);
-    for number in (12..=15).chain(17..=19).chain(21..=255) {
+    for number in (12..=15).chain(18..=19).chain(21..=255) {
         assert_eq!(Refusal::from_number(number), None);
     }
 }
@@ -84,7 +88,7 @@ fn refusals_are_errors_in_plain_words() {
 
 #[test]
 fn p1_to_p9_read() {
-    assert_eq!(Schedule::from_text(b"5?"), Ok(Schedule::new(&[], 5)));
+    assert_eq!(Schedule::from_text(b"5?"), Ok(none(41_469)));
     assert_eq!(Schedule::from_text(b""), read_error(Refusal::EndsEarly, 0));
     assert_eq!(
         Schedule::from_text(b"06+5?"),
@@ -94,15 +98,15 @@ fn p1_to_p9_read() {
         Schedule::from_text(b"1000?"),
         read_error(Refusal::BadGap, 3)
     );
-    assert_eq!(Schedule::from_text(b"999?"), Ok(Schedule::new(&[], 999)));
+    assert_eq!(Schedule::from_text(b"999?"), Ok(none(71_723)));
     assert_eq!(
         Schedule::from_text(b"5?\n"),
         read_error(Refusal::AfterEnd, 2)
     );
-    assert_eq!(Schedule::from_nybbles(&[0xF4]), Ok(Schedule::new(&[], 5)));
+    assert_eq!(Schedule::from_nybbles(&[0xF4]), Ok(none(41_469)));
     assert_eq!(
         Schedule::from_nybbles(&[0x0F]),
-        Ok(Schedule::new(&[positive(6)], 11))
+        Ok(Schedule::new(&[positive(6)], Mjd(41_652)))
     );
     assert_eq!(
         Schedule::from_nybbles(&[0x9D]),
@@ -134,7 +138,7 @@ fn list_a() {
     let leaps: Vec<Leap> = a.leaps().expect("A is well formed").collect();
     assert_eq!(leaps.len(), 19);
     assert_eq!(leaps[18], positive(270));
-    assert_eq!(a.expiry(), Ok(275));
+    assert_eq!(a.expiry_mjd(), Ok(Mjd(49_687)));
     // Month 270 is July 1994, MJD 49534.
     assert_eq!(a.dtai(Mjd(49_533)), Ok(28));
     assert_eq!(a.dtai(Mjd(49_534)), Ok(29));
@@ -153,7 +157,7 @@ fn list_b() {
     let leaps: Vec<Leap> = b.leaps().expect("B is well formed").collect();
     assert_eq!(leaps.len(), 27);
     assert_eq!(leaps[26], positive(540));
-    assert_eq!(b.expiry(), Ok(599));
+    assert_eq!(b.expiry_mjd(), Ok(Mjd(59_549)));
     assert_eq!(b.dtai(Mjd(57_753)), Ok(36));
     assert_eq!(b.dtai(Mjd(57_754)), Ok(37));
     assert_eq!(b.to_nybbles(), Ok(B.to_vec()));
@@ -195,7 +199,7 @@ fn dtai_below_zero() {
 
 #[test]
 fn parts_are_checked_by_every_question() {
-    let good = Schedule::new(&[positive(6)], 11);
+    let good = Schedule::new(&[positive(6)], Mjd(41_652));
     assert_eq!(good, text(b"6+5?"));
     assert_eq!(good.check(), Ok(()));
     assert_eq!(format!("{good:?}"), "Schedule(6+5?)");
@@ -208,24 +212,32 @@ fn parts_are_checked_by_every_question() {
     count_beyond[512] = u32::MAX;
     let mut unused_not_blank = *good.words();
     unused_not_blank[511] = 1;
+    let mut expiry_month = *good.words();
+    expiry_month[513] = 11;
     let words = [
         sign_two,
         month_over_16_bits,
         count_beyond,
         unused_not_blank,
+        expiry_month,
         [0; 514],
     ];
+    // Months 256, 257 and 258 are May to July 1993.
     let many: Vec<Leap> = (1..=257).map(positive).collect();
-    let malformed = words
-        .into_iter()
-        .map(Schedule::from_words)
-        .chain([Schedule::new(&many, 258), Schedule::new(&[positive(6)], 6)]);
+    let parts = [
+        Schedule::new(&many, Mjd(49_169)),
+        Schedule::new(&[positive(6)], Mjd(41_499)),
+        Schedule::new(&[positive(6)], Mjd(114_367)),
+        Schedule::new(&[positive(6)], Mjd((1 << 32) + 41_652)),
+        Schedule::new(&[positive(6)], Mjd(u64::MAX)),
+    ];
+    let malformed = words.into_iter().map(Schedule::from_words).chain(parts);
     for s in malformed {
         let no = Refusal::NotWellFormed;
         let mut out = [7; 800];
         assert_eq!(s.check(), Err(no));
         assert_eq!(s.leaps().map(Iterator::count), Err(no));
-        assert_eq!(s.expiry(), Err(no));
+        assert_eq!(s.expiry_mjd(), Err(no));
         assert_eq!(s.to_text(), Err(no));
         assert_eq!(s.to_nybbles(), Err(no));
         assert_eq!(s.write_text(&mut out), Err(no));
@@ -240,18 +252,92 @@ fn parts_are_checked_by_every_question() {
         assert_eq!(good.extends(&s), Err(no));
         assert_eq!(s.extends(&s), Err(no));
     }
-    assert_eq!(Schedule::new(&many[..256], 257).check(), Ok(()));
+    assert_eq!(Schedule::new(&many[..256], Mjd(49_139)).check(), Ok(()));
+}
+
+#[test]
+fn words_of_any_value_can_be_made() {
+    for expiry in [0, 11, 41_317, 65_536, 114_367, 1 << 31, u32::MAX] {
+        let schedule = none(expiry.into());
+        assert_eq!((schedule.words()[512], schedule.words()[513]), (0, expiry));
+    }
+    assert_eq!(none(1 << 32).words()[513], u32::MAX);
+}
+
+#[test]
+fn expiry_to_the_day() {
+    // Month 0 starts on 41317, month 1 on 41348. Month 999 has 30 days.
+    for (expiry, text) in [
+        (41_317, Err(Refusal::NotWellFormed)),
+        (41_318, Err(Refusal::NoGap)),
+        (41_347, Err(Refusal::NoGap)),
+        (41_348, Ok("1?")),
+        (41_360, Ok("1?")),
+        (71_752, Ok("999?")),
+        (71_753, Err(Refusal::NotWellFormed)),
+    ] {
+        let list = none(expiry);
+        assert_eq!(list.to_text(), text.map(str::to_string), "{expiry}");
+        assert_eq!(list.to_nybbles().err(), text.err(), "{expiry}");
+        let known = if text == Err(Refusal::NotWellFormed) {
+            Err(Refusal::NotWellFormed)
+        } else {
+            Ok(Mjd(expiry))
+        };
+        assert_eq!(list.expiry_mjd(), known);
+    }
+    let far = [positive(999), positive(1_998)];
+    let end = Schedule::new(&far, Mjd(114_366));
+    assert_eq!(end.to_text(), Ok("999+999+402?".to_string()));
+    let past = Schedule::new(&far, Mjd(114_367));
+    assert_eq!(past.check(), Err(Refusal::NotWellFormed));
+}
+
+#[test]
+fn the_last_day_before_an_expiry_within_a_month() {
+    // 13 February 1972: the day before it is 42 days from 1972 on.
+    let list = none(41_360);
+    let (z, last, over) = (
+        Mjd(41_359),
+        UtcMicros(86_399_999_999),
+        UtcMicros(86_400_000_000),
+    );
+    let tai = TaiMicros(86_400_000_000 * 43 - 1 + 10_000_000);
+    assert_eq!(list.utc_to_tai(z, last), Ok(tai));
+    assert_eq!(list.tai_to_utc(tai), Ok((z, last)));
+    assert_eq!(list.utc_to_uts(z, last), Ok(UtsNanos(86_399_999_999_000)));
+    assert_eq!(list.uts_to_utc(z, UtsNanos(86_399_999_999_999)), Ok(last));
+    assert_eq!(list.utc_to_tai(z, over), Err(Refusal::NoInstant));
+    assert_eq!(list.utc_to_uts(z, over), Err(Refusal::NoInstant));
+    let end = TaiMicros(tai.0 + 1);
+    assert_eq!(list.tai_to_utc(end), Err(Refusal::NotKnown));
+    assert_eq!(list.dtai(Mjd(41_360)), Err(Refusal::NotKnown));
+    let midnight = UtcMicros(0);
+    assert_eq!(
+        list.utc_to_tai(Mjd(41_360), midnight),
+        Err(Refusal::NotKnown)
+    );
+}
+
+#[test]
+fn lists_are_shown_by_their_text() {
+    assert_eq!(format!("{:?}", none(41_469)), "Schedule(5?)");
+    assert_eq!(format!("{:?}", none(41_470)), "Schedule(5? and MJD 41470)");
+    assert!(format!("{:?}", none(41_318)).ends_with(", 0, 41318])"));
+    assert!(format!("{:?}", none(0)).ends_with(", 0, 0])"));
 }
 
 #[test]
 fn the_longest_lists_fit() {
     // Two bytes a gap and one more from 10 months on: 238 gaps of 10 and 19 of
-    // 1 are 257 gaps and 2399 months. Another gap of 10 would pass 2400.
-    let longest = of_gaps([10; 238].into_iter().chain([1; 19]));
+    // 1 are 257 gaps and 2399 months. Another gap of 10 would pass 2400. Month 2399
+    // is December 2171, MJD 114335.
+    let longest = of_gaps([10; 238].into_iter().chain([1; 18]), 114_335);
     assert_eq!(longest.to_text().map(|t| t.len()), Ok(752));
     // Two nybbles a gap and two more from 17 months on: 133 gaps of 17 and 124
-    // of 1 are 257 gaps and 2385 months. Another gap of 17 would pass 2400.
-    let longest = of_gaps([17; 133].into_iter().chain([1; 124]));
+    // of 1 are 257 gaps and 2385 months. Another gap of 17 would pass 2400. Month
+    // 2385 is October 2170, 365 + 92 days before MJD 114366.
+    let longest = of_gaps([17; 133].into_iter().chain([1; 123]), 113_909);
     assert_eq!(longest.to_nybbles().map(|n| n.len()), Ok(390));
     assert!(HEADER.contains("LEAP_TEXT_ROOM = 752,"));
     assert!(HEADER.contains("LEAP_NYBBLES_ROOM = 390,"));

@@ -10,8 +10,8 @@
 //! utc LIST TAI             MJD MICROS
 //! uts LIST MJD MICROS      NANOS
 //! unsmooth LIST MJD NANOS  MICROS
-//! compare LIST LIST        a line a month at which they part, `=` and the
-//!                          expiries if they differ, what they are to each other
+//! compare LIST LIST        a line a month at which they part, `=` and the expiry
+//!                          MJDs if they differ, what they are to each other
 //! longer LIST LIST         the longer list
 //! ```
 //!
@@ -118,6 +118,12 @@ fn show(list: &List) -> Vec<String> {
     lines
 }
 
+/// A list as it is written. Of one that was read, which expires on the first of a
+/// month, none is refused.
+fn written(list: Result<Vec<u8>, u8>) -> Result<Vec<u8>, Reply> {
+    list.map_err(|number| Reply::Refused(format!("!{number}")))
+}
+
 /// A time question's numbers, if it is accepted.
 fn timed(refusal: u8, numbers: &[i128]) -> Reply {
     if refusal != 0 {
@@ -161,12 +167,12 @@ impl Desk {
             [b"show", list] => Reply::Answer(show(&*self.list(list)?)),
             [b"nybbles", list] => {
                 let list = self.list(list)?;
-                Reply::Answer(vec![to_hex(&nybbles::spell(&list.schedule))])
+                Reply::Answer(vec![to_hex(&written(nybbles::spell(&list.schedule))?)])
             }
             [b"text", hex] => {
                 let bytes = from_hex(hex).ok_or(Reply::NoQuestion)?;
                 let schedule = nybbles::parse(&bytes).map_err(list_refused)?;
-                let list = text::spell(&schedule);
+                let list = written(text::spell(&schedule))?;
                 Reply::Answer(vec![String::from_utf8_lossy(&list).into_owned()])
             }
             [b"dtai", list, mjd] => {

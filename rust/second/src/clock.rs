@@ -13,7 +13,7 @@ const DAY: i128 = 86_400 * SECOND;
 const LONGER_THAN_ANY_DAY: u64 = 86_401_000_000;
 /// UTS nanoseconds in a day.
 const UTS_DAY: u64 = 86_400_000_000_000;
-/// On the last day before expiry TAI is given below this ..
+/// On a last day of unknown length TAI is given below this ..
 const LAST_DAY_TAI_END: u64 = 86_399_000_000;
 /// .. and UTS below this (microseconds, and nanoseconds coming back).
 const LAST_DAY_UTS_END: u64 = 85_399_000_000;
@@ -26,7 +26,7 @@ struct Month {
     /// TAI microseconds at 00:00:00 UTC on the first of the month.
     start: i128,
     dtai: i32,
-    /// The leap at its end; unknown for the month before expiry.
+    /// The leap at its end; unknown for the last month.
     leap_at_end: Option<i8>,
 }
 
@@ -34,7 +34,7 @@ struct Month {
 pub struct Prepared {
     calendar: &'static Calendar,
     book: Vec<Month>,
-    /// Days before the expiry month.
+    /// Days before the expiry.
     days: usize,
 }
 
@@ -42,7 +42,8 @@ pub struct Prepared {
 struct Day {
     midnight: i128,
     dtai: i32,
-    /// The leap at its end; none if unknown, as on the last day before expiry.
+    /// The leap at its end; none if unknown, as on the last day before an expiry on
+    /// the first of a month.
     leap: Option<i8>,
 }
 
@@ -64,7 +65,6 @@ impl Prepared {
         let mut book = Vec::with_capacity(strip.len());
         let mut start = i128::from(TAI_AT_START);
         let mut dtai = 10;
-        let mut days = 0;
         for (month, &length) in calendar.month_days.iter().enumerate().take(strip.len()) {
             let leap_at_end = strip.get(month + 1).copied();
             book.push(Month {
@@ -75,12 +75,11 @@ impl Prepared {
             let leap = leap_at_end.unwrap_or(0);
             start += i128::from(length) * DAY + i128::from(leap) * SECOND;
             dtai += i32::from(leap);
-            days += length as usize;
         }
         Prepared {
             calendar,
             book,
-            days,
+            days: schedule.expiry(),
         }
     }
 
@@ -154,7 +153,8 @@ impl Prepared {
         }
         let day = self.day(started);
         let micros = tai - day.midnight;
-        if day.leap.is_none() && micros >= i128::from(LAST_DAY_TAI_END) {
+        // Only the last day's end can be reached.
+        if micros >= day.length().unwrap_or(LAST_DAY_TAI_END.into()) {
             return Err(NOT_KNOWN);
         }
         Ok((FIRST_MJD + started as u64, micros as u64))
@@ -219,7 +219,7 @@ impl Prepared {
         let mut stretches: Vec<(usize, usize, i32)> = Vec::new();
         let mut first = 0;
         for (month, &length) in self.book.iter().zip(&self.calendar.month_days) {
-            let last = first + length as usize - 1;
+            let last = self.days.min(first + length as usize) - 1;
             match stretches.last_mut() {
                 Some(stretch) if stretch.2 == month.dtai => stretch.1 = last,
                 _ => stretches.push((first, last, month.dtai)),
@@ -229,7 +229,7 @@ impl Prepared {
         stretches
     }
 
-    /// The first day (a place of the calendar's walk) of the expiry month.
+    /// The expiry day (a place of the calendar's walk).
     pub fn unknown_from(&self) -> usize {
         self.days
     }

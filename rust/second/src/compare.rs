@@ -1,5 +1,5 @@
 //! Two lists: where they part, whether one extends the other, and which of two
-//! is the longer (request 7/14 of `02-change-requests.md`).
+//! is the longer (requests 7/14 and 10/14 of `02-change-requests.md`).
 //!
 //! Both are looked at side by side, one month after the other from 0 to 2400.
 
@@ -14,7 +14,7 @@ enum Says {
     Positive,
     Negative,
     NoLeap,
-    /// At and after the list's expiry.
+    /// It starts on or after the list's expiry day.
     Unknown,
 }
 
@@ -44,11 +44,13 @@ impl Says {
     }
 }
 
-/// Whether one list extends the other: in every month that the shorter knows
-/// both say the same, and the longer expires no earlier.
+/// Whether one list extends the other: in every month that the shorter knows, which
+/// is one that starts before its expiry day, both say the same, and the longer
+/// expires no earlier.
 fn is_extension(longer: &Schedule, shorter: &Schedule) -> bool {
+    let mut known = 0..shorter.strip().len() as u32;
     longer.expiry() >= shorter.expiry()
-        && (0..shorter.expiry()).all(|month| Says::of(longer, month) == Says::of(shorter, month))
+        && known.all(|month| Says::of(longer, month) == Says::of(shorter, month))
 }
 
 /// What two lists are to each other.
@@ -99,8 +101,9 @@ pub fn lines(first: &[u8], second: &[u8]) -> Result<Vec<String>, u8> {
             lines.push(format!("{month} {} {}", one.mark(), other.mark()));
         }
     }
-    if first.expiry() != second.expiry() {
-        lines.push(format!("= {} {}", first.expiry(), second.expiry()));
+    let (one, other) = (first.expiry_mjd(), second.expiry_mjd());
+    if one != other {
+        lines.push(format!("= {one} {other}"));
     }
     lines.push(Relation::of(&first, &second).line().to_string());
     Ok(lines)
@@ -120,13 +123,11 @@ pub fn longer<'a>(first: &'a [u8], second: &'a [u8]) -> Result<&'a [u8], u8> {
 /// Writes a comparison, each line ended by LF, to the start of `out`: the
 /// number and how many bytes. A refusal changes no byte.
 pub fn compare_text(first: &[u8], second: &[u8], out: &mut [u8]) -> (u8, u64) {
-    match lines(first, second) {
-        Err(number) => (number, 0),
-        Ok(lines) => {
-            let all: String = lines.iter().map(|line| format!("{line}\n")).collect();
-            text::deliver(Some(all.into_bytes()), out)
-        }
-    }
+    let ended = |lines: Vec<String>| {
+        let all: String = lines.iter().map(|line| format!("{line}\n")).collect();
+        all.into_bytes()
+    };
+    text::deliver(lines(first, second).map(ended), out)
 }
 
 /// The number and the longer list's own bytes; a refusal hands back the empty

@@ -1,5 +1,5 @@
-//! The figures of 01, the example of request 7/14 and the tables of document
-//! 002, run and compared.
+//! The figures of 01, the example of request 7/14, the edges of request 10/14 and
+//! the tables of document 002, run and compared.
 //!
 //! One figure a line:
 //!
@@ -10,15 +10,19 @@
 //!
 //! INPUT is a word and its values, one space between. A list stands as its
 //! text with bytes outside ASCII's printable ones escaped, in double quotes
-//! where it is read from text; nybbles stand in hex. RESULT depends on the word:
+//! where it is read from text; nybbles stand in hex. LIST may also be a schedule
+//! that is handed in, LEAPS@EXPIRY, where LEAPS is `none` or months with signs,
+//! `6+,12-`, and EXPIRY an MJD. RESULT depends on the word:
 //!
 //! ```text
-//! read "TEXT"              NUMBER PLACE LEAPS EXPIRY, where LEAPS is `none` or
-//! read-nybbles HEX           months with signs, `6+,12-`
-//! summary LIST             leaps, last leap month, expiry, DTAI after
-//! write-text HEX           NUMBER and the text
+//! read "TEXT"              NUMBER PLACE LEAPS EXPIRY
+//! read-nybbles HEX         the same
+//! summary LIST             leaps, last leap month, expiry MJD, DTAI after
+//! to-text HEX              NUMBER and the text of a nybble list
+//! write-text LIST          NUMBER and the text
 //! write-nybbles LIST       NUMBER and the hex
-//! well-formed WHAT         `yes` or `no`
+//! well-formed LIST         `yes` or `no`
+//! extends LIST LIST        NUMBER and `yes` or `no`
 //! month-start N            MJD
 //! dtai LIST MJD            NUMBER DTAI
 //! tai LIST MJD MICROS      NUMBER TAI
@@ -36,8 +40,8 @@ use std::fmt;
 use crate::ask::{from_hex, to_hex};
 use crate::calendar::month_start;
 use crate::{
-    compare_text, dtai, read_nybbles, read_text, tai_to_utc, utc_to_tai, utc_to_uts, uts_to_utc,
-    well_formed, write_nybbles, write_text, Raw, Reading,
+    compare_text, dtai, extends, read_nybbles, read_text, tai_to_utc, utc_to_tai, utc_to_uts,
+    uts_to_utc, well_formed, write_nybbles, write_text, Raw, Reading,
 };
 
 pub struct Figure {
@@ -117,11 +121,27 @@ fn reading(r: &Reading) -> String {
     } else {
         leaps.join(",")
     };
-    format!("{} {} {leaps} {}", r.number, r.place, s.expiry)
+    format!("{} {} {leaps} {}", r.number, r.place, s.expiry_mjd)
 }
 
+/// The schedule of a text list, or of LEAPS@EXPIRY.
 fn list(text: &str) -> Raw {
-    read_text(text.as_bytes()).schedule
+    let Some((leaps, expiry)) = text.split_once('@') else {
+        return read_text(text.as_bytes()).schedule;
+    };
+    let number = |digits: &str| digits.parse().unwrap_or(u32::MAX);
+    let mut raw = Raw::blank();
+    for leap in leaps.split(',').filter(|leap| *leap != "none") {
+        let (month, sign) = leap.split_at(leap.len() - 1);
+        raw.words[raw.count as usize] = (number(month), u32::from(sign == "-"));
+        raw.count += 1;
+    }
+    raw.expiry_mjd = number(expiry);
+    raw
+}
+
+fn yes_or_no(yes: bool) -> String {
+    if yes { "yes" } else { "no" }.to_string()
 }
 
 fn bytes(hex: &str) -> Vec<u8> {
@@ -159,18 +179,26 @@ impl Page {
         let result = format!(
             "{} {last} {} {}",
             s.count,
-            s.expiry,
+            s.expiry_mjd,
             dtai(&s, month_start(last)).1
         );
         self.put(name, format!("summary {text}"), result, expected);
     }
 
-    fn write_text(&mut self, name: &str, hex: &str, expected: &str) {
+    fn text_of(&mut self, name: &str, input: String, raw: &Raw, expected: &str) {
         let mut out = [0; 2048];
-        let (number, count) = write_text(&read_nybbles(&bytes(hex)).schedule, &mut out);
+        let (number, count) = write_text(raw, &mut out);
         let text = String::from_utf8_lossy(&out[..count as usize]).into_owned();
-        let input = format!("write-text {hex}");
         self.put(name, input, format!("{number} {text}"), expected);
+    }
+
+    fn nybbles_to_text(&mut self, name: &str, hex: &str, expected: &str) {
+        let raw = read_nybbles(&bytes(hex)).schedule;
+        self.text_of(name, format!("to-text {hex}"), &raw, expected);
+    }
+
+    fn write_text(&mut self, name: &str, text: &str, expected: &str) {
+        self.text_of(name, format!("write-text {text}"), &list(text), expected);
     }
 
     fn write_nybbles(&mut self, name: &str, text: &str, expected: &str) {
@@ -179,6 +207,18 @@ impl Page {
         let hex = to_hex(&out[..count as usize]);
         let input = format!("write-nybbles {text}");
         self.put(name, input, format!("{number} {hex}"), expected);
+    }
+
+    fn well_formed(&mut self, name: &str, text: &str, expected: &str) {
+        let result = yes_or_no(well_formed(&list(text)));
+        self.put(name, format!("well-formed {text}"), result, expected);
+    }
+
+    fn extends(&mut self, name: &str, longer: &str, shorter: &str, expected: &str) {
+        let (number, yes) = extends(&list(longer), &list(shorter));
+        let input = format!("extends {longer} {shorter}");
+        let result = format!("{number} {}", yes_or_no(yes));
+        self.put(name, input, result, expected);
     }
 
     fn month_start(&mut self, name: &str, number: u32, expected: &str) {
@@ -238,21 +278,103 @@ impl Page {
     }
 }
 
+/// 02, request 10/14.
+fn expiry_to_the_day(p: &mut Page) {
+    // Month 0 starts on 41317 and month 1 on 41348; month 999 starts on 71723 and
+    // has 30 days. Month 2400 starts on 114366, 402 months after month 1998.
+    let far = "999+,1998+";
+    for (expiry, is) in [
+        ("none@41317", "no"),
+        ("none@41318", "yes"),
+        ("none@41347", "yes"),
+        ("none@41348", "yes"),
+        ("none@71752", "yes"),
+        ("none@71753", "no"),
+        (&format!("{far}@114366"), "yes"),
+        (&format!("{far}@114367"), "no"),
+        // Month 6 starts on 41499, and 999 months after it month 1005, October
+        // 2055, 183 days after month 999. It has 31 days.
+        ("6+@41499", "no"),
+        ("6+@41500", "yes"),
+        ("6+@71936", "yes"),
+        ("6+@71937", "no"),
+        // A month number is a day before 1972.
+        ("6+@11", "no"),
+        ("none@2400", "no"),
+    ] {
+        p.well_formed(&format!("10/14 {expiry}"), expiry, is);
+    }
+
+    // The expiry is 13 February 1972. The day before it, 42 days on from 41317, is
+    // known whole: its last TAI is 86,400,000,000 x 43 - 1 + 10,000,000.
+    let within = "none@41360";
+    let (last, over) = (86_399_999_999, 86_400_000_000);
+    p.dtai("10/14 DTAI on Z", within, 41_359, "0 10");
+    p.dtai("10/14 DTAI after Z", within, 41_360, "10 0");
+    p.tai("10/14 last TAI", within, 41_359, last, "0 3715209999999");
+    p.tai("10/14 no such TAI", within, 41_359, over, "9 0");
+    p.tai("10/14 TAI after Z", within, 41_360, 0, "10 0");
+    p.uts("10/14 last UTS", within, 41_359, last, "0 86399999999000");
+    p.uts("10/14 no such UTS", within, 41_359, over, "9 0");
+    p.uts("10/14 UTS after Z", within, 41_360, 0, "10 0");
+    let back = "0 41359 86399999999";
+    p.utc("10/14 last TAI back", within, 3_715_209_999_999, back);
+    p.utc("10/14 end of Z", within, 3_715_210_000_000, "10 0 0");
+    let nanos = 86_399_999_999_999;
+    let back = "0 86399999999";
+    p.unsmooth("10/14 last UTS back", within, 41_359, nanos, back);
+    p.unsmooth("10/14 UTS back after Z", within, 41_360, 0, "10 0");
+
+    // Writers round down to the month, and refuse a gap of 0.
+    for (schedule, text, hex) in [
+        ("none@41318", "17 ", "17 "),
+        ("none@41347", "17 ", "17 "),
+        ("none@41348", "0 1?", "0 f0"),
+        ("none@71752", "0 999?", "0 8f8f8f8f8f8f8f8f8f8f85f2"),
+        ("6+@41500", "17 ", "17 "),
+        // 28 December 1972
+        ("6+@41679", "0 6+5?", "0 90f4"),
+    ] {
+        p.write_text(&format!("10/14 {schedule} in text"), schedule, text);
+        p.write_nybbles(&format!("10/14 {schedule} in nybbles"), schedule, hex);
+    }
+
+    // Two expiries in one month are two, and a list knows of the leap, or of none, in
+    // a month whose first day lies before its expiry.
+    for (longer, shorter, is) in [
+        ("none@41361", "none@41360", "0 yes"),
+        ("none@41360", "none@41361", "0 no"),
+        ("6+@41679", "6+5?", "0 yes"),
+        ("6+5?", "6+@41679", "0 no"),
+        ("6+@41500", "none@41499", "0 yes"),
+        ("6+@41500", "none@41500", "0 no"),
+        ("none@41500", "6+@41500", "0 no"),
+        ("none@41317", "none@41360", "11 no"),
+    ] {
+        let name = format!("10/14 {longer} extends {shorter}");
+        p.extends(&name, longer, shorter, is);
+    }
+}
+
 /// Every figure, in the papers' order.
 pub fn figures() -> Vec<Figure> {
     let mut p = Page::default();
     let plus = "6+5?";
     let minus = "6-5?";
 
-    // 01, "Worked by hand", the table to be proved.
-    p.read("P1", "5?", "0 0 none 5");
+    // 01, "Worked by hand", the table to be proved. From 10/14 on an expiry is its
+    // month's first day. Month 5 is June 1972, 31 + 29 + 31 + 30 + 31 = 152 days on
+    // from 41317; month 11 is December, 366 - 31 = 335 days on. Month 999 is April
+    // 2055: 2000-01-01 is MJD 51544, 55 years with 14 leap days bring 2055-01-01 to
+    // 71633, and 31 + 28 + 31 days more are 71723.
+    p.read("P1", "5?", "0 0 none 41469");
     p.read("P2", "", "1 0 none 0");
     p.read("P3", "06+5?", "3 0 none 0");
     p.read("P4", "1000?", "3 3 none 0");
-    p.read("P5", "999?", "0 0 none 999");
+    p.read("P5", "999?", "0 0 none 71723");
     p.read("P6", "5?\n", "6 2 none 0");
-    p.read_nybbles("P7", "f4", "0 0 none 5");
-    p.read_nybbles("P8", "0f", "0 0 6+ 11");
+    p.read_nybbles("P7", "f4", "0 0 none 41469");
+    p.read_nybbles("P8", "0f", "0 0 6+ 41652");
     p.read_nybbles("P9", "9d", "1 2 none 0");
     p.uts("P10", plus, 41_498, 86_400_000_000, "0 86399001000000");
     p.uts("P11a", plus, 41_498, 85_401_000_000, "0 85401000000000");
@@ -260,23 +382,24 @@ pub fn figures() -> Vec<Figure> {
     p.uts("P12a", minus, 41_498, 86_398_000_000, "0 86398999000000");
     p.uts("P12b", minus, 41_498, 86_399_000_000, "9 0");
 
-    // 01, "Worked by hand", lists A and B and the gap of 999.
-    p.summary("A", A, "19 270 275 29");
+    // 01, "Worked by hand", lists A and B and the gap of 999. Month 275 is December
+    // 1994: 23 years from 1972 on with 6 leap days, less its 31 days, are 8370 days.
+    p.summary("A", A, "19 270 49687 29");
     let a_leaps = concat!(
         "6+,12+,24+,36+,48+,60+,72+,84+,96+,114+,126+,138+,",
         "162+,192+,216+,228+,246+,258+,270+"
     );
-    p.read("A read", A, &format!("0 0 {a_leaps} 275"));
+    p.read("A read", A, &format!("0 0 {a_leaps} 49687"));
     p.write_nybbles("A in nybbles", A, "0 00111111121134312191f4");
     p.read_nybbles(
         "A from nybbles",
         "00111111121134312191f4",
-        &format!("0 0 {a_leaps} 275"),
+        &format!("0 0 {a_leaps} 49687"),
     );
     p.dtai("A DTAI before the last leap", A, 49_533, "0 28");
     p.dtai("A DTAI after the last leap", A, 49_534, "0 29");
-    p.summary("B", B, "27 540 599 37");
-    p.write_text("B in text", B_HEX, &format!("0 {B}"));
+    p.summary("B", B, "27 540 59549 37");
+    p.nybbles_to_text("B in text", B_HEX, &format!("0 {B}"));
     p.write_nybbles("B in nybbles", B, &format!("0 {B_HEX}"));
     p.month_start("B last leap", 540, "57754");
     p.month_start("B expiry", 599, "59549");
@@ -291,12 +414,13 @@ pub fn figures() -> Vec<Figure> {
     p.read_nybbles(
         "gap of 999 back",
         "8f8f8f8f8f8f8f8f8f8f85f2",
-        "0 0 none 999",
+        "0 0 none 71723",
     );
 
-    // 01, what the module covers: by the bytecode rule 0x82 is 18 months.
-    p.read_nybbles("0x82 is 18 months", "82f4", "0 0 none 23");
-    p.read_nybbles("0x85 is 36 months", "85f4", "0 0 none 41");
+    // 01, what the module covers: by the bytecode rule 0x82 is 18 months. Month 23
+    // is December 1973, 366 + 334 days on, and month 41 June 1975, 1096 + 151.
+    p.read_nybbles("0x82 is 18 months", "82f4", "0 0 none 42017");
+    p.read_nybbles("0x85 is 36 months", "85f4", "0 0 none 42564");
 
     // 01, months and days.
     p.month_start("month 0", 0, "41317");
@@ -305,17 +429,7 @@ pub fn figures() -> Vec<Figure> {
     // bring 2100-01-01 to 88069, and February 2100 has 28 days.
     p.month_start("February 2100", 1_537, "88100");
     p.month_start("March 2100", 1_538, "88128");
-    p.put(
-        "blank",
-        "well-formed blank".to_string(),
-        if well_formed(&Raw::blank()) {
-            "yes"
-        } else {
-            "no"
-        }
-        .to_string(),
-        "no",
-    );
+    p.well_formed("blank", "none@0", "no");
     p.dtai("DTAI from MJD 41317", "5?", 41_317, "0 10");
     p.dtai("before 1972", "5?", 41_316, "8 0");
     p.dtai(
@@ -389,7 +503,7 @@ pub fn figures() -> Vec<Figure> {
     // Eleven times 96 months is 1056; the eleventh code starts at nybble 20.
     let eleven = "8f8f8f8f8f8f8f8f8f8f8ff0";
     p.read_nybbles("NP 00 codes count together", eleven, "3 20 none 0");
-    p.read_nybbles("0x95 is taken", "95f4", "0 0 36+ 41");
+    p.read_nybbles("0x95 is taken", "95f4", "0 0 36+ 42564");
     // Month 5 starts on MJD 41469, so Z is 41468, 151 days on.
     p.tai(
         "Z, last TAI given",
@@ -431,13 +545,16 @@ pub fn figures() -> Vec<Figure> {
     p.dtai("Z", "5?", 41_468, "0 10");
     p.dtai("the day after Z", "5?", 41_469, "10 0");
 
-    // 02, request 7/14.
+    // 02, request 7/14, with MJDs by 10/14: months 17 and 23 are June and December
+    // 1973, 366 + 151 and 366 + 334 days on.
     p.compare(
         "7/14",
         "6+6+5?",
         "6+12+5?",
-        "0 12 + 0; 18 ? +; = 17 23; contradict",
+        "0 12 + 0; 18 ? +; = 41834 42017; contradict",
     );
+
+    expiry_to_the_day(&mut p);
 
     // Document 002's tables, there and back.
     p.table("002 inserted", plus, &INSERTED);

@@ -6,9 +6,10 @@
 //! proposal for UTS.
 //!
 //! Means used here: the calendar is walked a day at a time; a schedule is a
-//! strip of months, each with its leap; TAI is elapsed time summed month by
-//! month; UTS is document 002's own algorithm; both ways back are searches; two
-//! lists are compared a month at a time; a trace is replayed a line at a time.
+//! strip of months, each with its leap, and a day of that walk, its expiry; TAI is
+//! elapsed time summed month by month; UTS is document 002's own algorithm; both
+//! ways back are searches; two lists are compared a month at a time; a trace is
+//! replayed a line at a time.
 
 #![forbid(unsafe_code)]
 

@@ -4,7 +4,7 @@
 use crate::calendar::LAST_MONTH;
 use crate::refusal::*;
 use crate::schedule::{Laying, Mark, Raw, Reading, Schedule, MAX_GAP, MAX_LEAPS};
-use crate::text::deliver;
+use crate::text::write_by;
 
 /// A bytecode WMNPGGGG and the place of its first nybble.
 #[derive(Clone, Copy, Debug, PartialEq, Eq)]
@@ -128,10 +128,10 @@ fn spell_gap(gap: u32, mark: Mark, codes: &mut Vec<Spelt>) {
     }
 }
 
-/// A schedule's nybble list.
-pub fn spell(schedule: &Schedule) -> Vec<u8> {
+/// A schedule's nybble list, or 17.
+pub fn spell(schedule: &Schedule) -> Result<Vec<u8>, u8> {
     let mut codes = Vec::new();
-    for (gap, mark) in schedule.gaps() {
+    for (gap, mark) in schedule.gaps()? {
         spell_gap(gap, mark, &mut codes);
     }
     let singles = codes.iter().filter(|c| matches!(c, Spelt::Single(_)));
@@ -151,11 +151,11 @@ pub fn spell(schedule: &Schedule) -> Vec<u8> {
             Spelt::Wide(flags, g) => nybbles.extend([flags, g]),
         }
     }
-    nybbles.chunks_exact(2).map(|p| p[0] << 4 | p[1]).collect()
+    Ok(nybbles.chunks_exact(2).map(|p| p[0] << 4 | p[1]).collect())
 }
 
 pub fn write_nybbles(raw: &Raw, out: &mut [u8]) -> (u8, u64) {
-    deliver(Schedule::from_raw(raw).map(|s| spell(&s)), out)
+    write_by(spell, raw, out)
 }
 
 #[cfg(test)]

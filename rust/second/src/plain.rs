@@ -1,5 +1,5 @@
 //! The figures in the lines of the proved program `figures`, to compare the two
-//! outputs: a name, then numbers. A reading is number, place, leaps, expiry.
+//! outputs: a name, then numbers. A reading is number, place, leaps, expiry MJD.
 
 use crate::ask::to_hex;
 use crate::calendar::month_start;
@@ -14,7 +14,7 @@ const B: &[u8] = b"\x00\x11\x11\x11\x12\x11\x34\x31\x21\x12\x22\x9D\x56\x52\x87\
 fn reading(name: &str, r: &Reading) -> String {
     format!(
         "{name} {} {} {} {}",
-        r.number, r.place, r.schedule.count, r.schedule.expiry
+        r.number, r.place, r.schedule.count, r.schedule.expiry_mjd
     )
 }
 
@@ -124,5 +124,22 @@ pub fn lines() -> Vec<String> {
     all.push(values("1972 UTC", number, &[mjd.into(), micros.into()]));
     all.push(atomic("leap TAI", &plus, 41_498, 86_400_000_000));
     all.push(atomic("next TAI", &plus, 41_499, 0));
+    let expiring = |expiry_mjd| Raw {
+        expiry_mjd,
+        ..Raw::blank()
+    };
+    for mjd in [41_317, 41_318, 41_347, 41_348, 71_752, 71_753] {
+        all.push(written(&format!("until {mjd}"), &expiring(mjd)));
+    }
+    let within = expiring(41_360);
+    all.push(smooth("within UTS", &within, 41_359, 86_399_999_999));
+    all.push(smooth("within UTS", &within, 41_359, 86_400_000_000));
+    all.push(smooth("within UTS", &within, 41_360, 0));
+    all.push(atomic("within TAI", &within, 41_359, 86_399_999_999));
+    all.push(atomic("within TAI", &within, 41_359, 86_400_000_000));
+    for tai in [3_715_209_999_999, 3_715_210_000_000] {
+        let (number, mjd, micros) = tai_to_utc(&within, tai);
+        all.push(values("within UTC", number, &[mjd.into(), micros.into()]));
+    }
     all
 }

@@ -14,4 +14,5 @@ pub const NO_SUCH_INSTANT: u8 = 9;
 pub const NOT_KNOWN: u8 = 10;
 pub const NOT_WELL_FORMED: u8 = 11;
 pub const CONTRADICTION: u8 = 16;
+pub const NO_GAP: u8 = 17;
 pub const NO_LINE: u8 = 20;

@@ -189,7 +189,7 @@ pub fn replay(state: &mut State, piece: &[u8], out: &mut [u8]) -> (u8, u64, u64)
 /// the number and how many bytes.
 pub fn replay_end(left: &[u8], out: &mut [u8]) -> (u8, u64) {
     let printed = if left.is_empty() { b"" } else { UNENDED };
-    text::deliver(Some(printed.to_vec()), out)
+    text::deliver(Ok(printed.to_vec()), out)
 }
 
 /// Reads a line into `line`, without its LF and never more than one byte too

@@ -1,7 +1,9 @@
 //! The schedule as a caller hands it in (`Raw`) and as this program keeps it:
-//! a strip with one cell a month.
+//! a strip with one cell for each month that is known, and the day on which that
+//! ends (request 10/14 of `02-change-requests.md`).
 
-use crate::calendar::LAST_MONTH;
+use crate::calendar::{calendar, FIRST_MJD};
+use crate::refusal::NO_GAP;
 
 pub const MAX_LEAPS: usize = 256;
 pub const MAX_GAP: u32 = 999;
@@ -12,7 +14,7 @@ pub struct Raw {
     /// Month and `negative` word of each place.
     pub words: [(u32, u32); MAX_LEAPS],
     pub count: u32,
-    pub expiry: u32,
+    pub expiry_mjd: u32,
 }
 
 impl Raw {
@@ -21,18 +23,18 @@ impl Raw {
         Raw {
             words: [(0, 0); MAX_LEAPS],
             count: 0,
-            expiry: 0,
+            expiry_mjd: 0,
         }
     }
 
-    /// From month0, negative0, month1, negative1, .., count, expiry.
+    /// From month0, negative0, month1, negative1, .., count, expiry MJD.
     pub fn from_words(flat: &[u32; 514]) -> Raw {
         let mut raw = Raw::blank();
         for (place, pair) in raw.words.iter_mut().zip(flat.chunks_exact(2)) {
             *place = (pair[0], pair[1]);
         }
         raw.count = flat[512];
-        raw.expiry = flat[513];
+        raw.expiry_mjd = flat[513];
         raw
     }
 
@@ -44,7 +46,7 @@ impl Raw {
             pair[1] = place.1;
         }
         flat[512] = self.count;
-        flat[513] = self.expiry;
+        flat[513] = self.expiry_mjd;
         flat
     }
 }
@@ -85,10 +87,13 @@ pub enum Mark {
 }
 
 /// A well-formed schedule as a strip of months: cell m is the leap at the start
-/// of month m (+1, -1 or 0), and the strip's length is the expiry month.
+/// of month m (+1, -1 or 0), and the strip has every month that starts before the
+/// expiry day.
 #[derive(Clone, Debug, PartialEq, Eq)]
 pub struct Schedule {
     strip: Vec<i8>,
+    /// The expiry day's place in the calendar's walk.
+    expiry: usize,
 }
 
 impl Schedule {
@@ -100,20 +105,24 @@ impl Schedule {
         if unused.iter().any(|&place| place != (0, 0)) {
             return None;
         }
-        if raw.expiry > LAST_MONTH {
-            return None;
-        }
-        let mut before = 0;
-        let ends = leaps.iter().map(|&(month, _)| month).chain([raw.expiry]);
-        for month in ends {
-            let gap = i64::from(month) - i64::from(before);
+        let mut last = 0;
+        for &(month, _) in leaps {
+            let gap = i64::from(month) - i64::from(last);
             if gap < 1 || gap > i64::from(MAX_GAP) {
                 return None;
             }
-            before = month;
+            last = month;
         }
-        // Every month now lies below the expiry.
-        let mut strip = vec![0; raw.expiry as usize];
+        // The expiry is a day of the walk, whose last is 114366, later than the first
+        // day of the last leap's month, and at most 999 months after it by number.
+        let walk = calendar();
+        let expiry = u64::from(raw.expiry_mjd).checked_sub(FIRST_MJD)? as usize;
+        let month = walk.days.get(expiry)?.number;
+        if expiry <= walk.first_day(last) || month - last > MAX_GAP {
+            return None;
+        }
+        let last_known = walk.days[expiry - 1].number;
+        let mut strip = vec![0; last_known as usize + 1];
         for &(month, negative) in leaps {
             strip[month as usize] = match negative {
                 0 => 1,
@@ -121,7 +130,7 @@ impl Schedule {
                 _ => return None,
             };
         }
-        Some(Schedule { strip })
+        Some(Schedule { strip, expiry })
     }
 
     pub fn to_raw(&self) -> Raw {
@@ -132,33 +141,44 @@ impl Schedule {
                 raw.count += 1;
             }
         }
-        raw.expiry = self.expiry();
+        raw.expiry_mjd = self.expiry_mjd() as u32;
         raw
     }
 
-    pub fn expiry(&self) -> u32 {
-        self.strip.len() as u32
+    /// The expiry day's place in the calendar's walk.
+    pub fn expiry(&self) -> usize {
+        self.expiry
     }
 
-    /// The leap at the start of each month below the expiry.
+    pub fn expiry_mjd(&self) -> u64 {
+        FIRST_MJD + self.expiry as u64
+    }
+
+    /// The leap at the start of each month that starts before the expiry day.
     pub fn strip(&self) -> &[i8] {
         &self.strip
     }
 
-    /// Every gap with the mark that ends it, the expiry last.
-    pub fn gaps(&self) -> Vec<(u32, Mark)> {
+    /// Every gap with the mark that ends it, the expiry last, which is rounded
+    /// down to its month; 17 if that leaves a gap of 0.
+    pub fn gaps(&self) -> Result<Vec<(u32, Mark)>, u8> {
         let mut gaps = Vec::new();
-        let mut run = 0;
-        for &leap in &self.strip {
-            match leap {
-                0 => {}
-                1 => gaps.push((std::mem::take(&mut run), Mark::Positive)),
-                _ => gaps.push((std::mem::take(&mut run), Mark::Negative)),
-            }
-            run += 1;
+        let mut last = 0;
+        for (month, &leap) in (0..).zip(&self.strip) {
+            let mark = match leap {
+                0 => continue,
+                1 => Mark::Positive,
+                _ => Mark::Negative,
+            };
+            gaps.push((month - last, mark));
+            last = month;
         }
-        gaps.push((run, Mark::Expiry));
-        gaps
+        let month = calendar().days[self.expiry].number;
+        if month == last {
+            return Err(NO_GAP);
+        }
+        gaps.push((month - last, Mark::Expiry));
+        Ok(gaps)
     }
 }
 
@@ -188,11 +208,14 @@ impl Laying {
         self.leaps += 1;
     }
 
-    /// The last gap.
+    /// The last gap: the expiry is the first day of the month that it ends with.
     pub fn expire(mut self, gap: u32) -> Schedule {
         self.months += gap as usize;
         self.strip.resize(self.months, 0);
-        Schedule { strip: self.strip }
+        Schedule {
+            strip: self.strip,
+            expiry: calendar().first_day(self.months as u32),
+        }
     }
 }
 

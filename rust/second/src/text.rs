@@ -108,10 +108,10 @@ pub fn read_text(list: &[u8]) -> Reading {
     }
 }
 
-/// A schedule's text list.
-pub fn spell(schedule: &Schedule) -> Vec<u8> {
+/// A schedule's text list, or 17.
+pub fn spell(schedule: &Schedule) -> Result<Vec<u8>, u8> {
     let mut list = Vec::new();
-    for (gap, mark) in schedule.gaps() {
+    for (gap, mark) in schedule.gaps()? {
         list.extend_from_slice(gap.to_string().as_bytes());
         list.push(match mark {
             Positive => b'+',
@@ -119,17 +119,28 @@ pub fn spell(schedule: &Schedule) -> Vec<u8> {
             Expiry => b'?',
         });
     }
-    list
+    Ok(list)
 }
 
 pub fn write_text(raw: &Raw, out: &mut [u8]) -> (u8, u64) {
-    deliver(Schedule::from_raw(raw).map(|s| spell(&s)), out)
+    write_by(spell, raw, out)
 }
 
-/// The writers' common end: refusal 11, then 7, else the bytes.
-pub(crate) fn deliver(list: Option<Vec<u8>>, out: &mut [u8]) -> (u8, u64) {
-    let Some(list) = list else {
-        return (NOT_WELL_FORMED, 0);
+/// Writes a list in a format: refusal 11, then 17, then 7, else the bytes.
+pub(crate) fn write_by(
+    spell: fn(&Schedule) -> Result<Vec<u8>, u8>,
+    raw: &Raw,
+    out: &mut [u8],
+) -> (u8, u64) {
+    let schedule = Schedule::from_raw(raw).ok_or(NOT_WELL_FORMED);
+    deliver(schedule.and_then(|s| spell(&s)), out)
+}
+
+/// The writers' common end: the refusal so far, then 7, else the bytes.
+pub(crate) fn deliver(list: Result<Vec<u8>, u8>, out: &mut [u8]) -> (u8, u64) {
+    let list = match list {
+        Ok(list) => list,
+        Err(number) => return (number, 0),
     };
     match out.get_mut(..list.len()) {
         None => (OUTPUT_TOO_SHORT, 0),

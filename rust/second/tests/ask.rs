@@ -31,18 +31,19 @@ fn answers() {
 fn two_lists() {
     assert_eq!(
         line("compare 6+6+5? 6+12+5?"),
-        "12 + 0; 18 ? +; = 17 23; contradict"
+        "12 + 0; 18 ? +; = 41834 42017; contradict"
     );
-    assert_eq!(line("compare 6? 6+5?"), "6 ? +; = 6 11; extends 2");
+    assert_eq!(line("compare 6? 6+5?"), "6 ? +; = 41499 41652; extends 2");
     assert_eq!(line("compare 11? 6+5?"), "6 0 +; contradict");
     assert_eq!(line("compare 5? 5?"), "same");
     assert_eq!(line("compare current current"), "same");
-    // The built-in list's second leap is at month 12, its expiry at 665.
+    // The built-in list's second leap is at month 12, its expiry at month 665, June
+    // 2027: 55 years with 14 leap days and 151 days from 1972 on.
     assert_eq!(
         line("compare 6+5? current").split("; ").next(),
         Some("12 ? +")
     );
-    assert!(line("compare 6+5? current").ends_with("; 540 ? +; = 11 665; extends 2"));
+    assert!(line("compare 6+5? current").ends_with("; 540 ? +; = 41652 61557; extends 2"));
     assert_eq!(line("longer 6? 6+5?"), "6+5?");
     assert_eq!(line("longer 6+5? 6?"), "6+5?");
     assert_eq!(line("longer 5? 5?"), "5?");

@@ -1,8 +1,8 @@
-//! Request 7/14: where two lists part, the longer of two, and extension.
+//! Requests 7/14 and 10/14: where two lists part, the longer of two, and extension.
 
 mod common;
 
-use common::{leaps_of, list, longer, month_mjd, raw, Rng};
+use common::{first_list, leaps_of, longer, month_mjd, on_a_first, raw, to_month, Rng};
 use second::*;
 
 /// The comparison's text, written with more room than any needs.
@@ -16,6 +16,11 @@ fn compared(first: &str, second: &str) -> Result<String, u8> {
         0 => Ok(String::from_utf8(out).unwrap()),
         _ => Err(number),
     }
+}
+
+/// The line of two expiries, given as months.
+fn months(first: u32, second: u32) -> String {
+    format!("= {} {}", month_mjd(first), month_mjd(second))
 }
 
 /// Checks a comparison's lines, and those of the two lists in the other order:
@@ -36,18 +41,18 @@ fn parts(first: &str, second: &str, lines: &[&str]) {
 
 #[test]
 fn worked_answers() {
-    // Leaps 6 and 12, expiry 17; leaps 6 and 18, expiry 23.
-    let lines = ["12 + 0", "18 ? +", "= 17 23", "contradict"];
+    // Leaps 6 and 12, expiry 17, June 1973; leaps 6 and 18, expiry 23, December 1973.
+    let lines = ["12 + 0", "18 ? +", "= 41834 42017", "contradict"];
     parts("6+6+5?", "6+12+5?", &lines);
     assert_eq!(
         compared("6+6+5?", "6+12+5?").unwrap(),
-        "12 + 0\n18 ? +\n= 17 23\ncontradict\n"
+        "12 + 0\n18 ? +\n= 41834 42017\ncontradict\n"
     );
     assert_eq!(
         compared("6+12+5?", "6+6+5?").unwrap(),
-        "12 0 +\n18 + ?\n= 23 17\ncontradict\n"
+        "12 0 +\n18 + ?\n= 42017 41834\ncontradict\n"
     );
-    parts("6?", "6+5?", &["6 ? +", "= 6 11", "extends 2"]);
+    parts("6?", "6+5?", &["6 ? +", "= 41499 41652", "extends 2"]);
     parts("11?", "6+5?", &["6 0 +", "contradict"]);
     for list in ["5?", "6+5?", "6-5?", "999+999-402?"] {
         parts(list, list, &["same"]);
@@ -56,13 +61,17 @@ fn worked_answers() {
 
 #[test]
 fn extensions() {
-    parts("5?", "6?", &["= 5 6", "extends 2"]);
-    parts("6+5?", "6+6?", &["= 11 12", "extends 2"]);
-    // A leap at the shorter list's expiry month, and one behind it.
-    parts("6+5?", "6+5-1?", &["11 ? -", "= 11 12", "extends 2"]);
-    parts("6+5?", "6+6+1?", &["12 ? +", "= 11 13", "extends 2"]);
-    parts("6?", "6+6-5?", &["6 ? +", "12 ? -", "= 6 17", "extends 2"]);
-    parts("12+5?", "6?", &["12 + ?", "= 17 6", "extends 1"]);
+    parts("5?", "6?", &[&months(5, 6), "extends 2"]);
+    parts("6+5?", "6+6?", &[&months(11, 12), "extends 2"]);
+    // A leap in the month that starts on the shorter list's expiry, and one behind it.
+    parts("6+5?", "6+5-1?", &["11 ? -", &months(11, 12), "extends 2"]);
+    parts("6+5?", "6+6+1?", &["12 ? +", &months(11, 13), "extends 2"]);
+    parts(
+        "6?",
+        "6+6-5?",
+        &["6 ? +", "12 ? -", &months(6, 17), "extends 2"],
+    );
+    parts("12+5?", "6?", &["12 + ?", &months(17, 6), "extends 1"]);
 }
 
 #[test]
@@ -72,11 +81,11 @@ fn contradictions() {
     // Known by both in the last month before an expiry.
     parts("7?", "6+1?", &["6 0 +", "contradict"]);
     parts("5+1?", "6?", &["5 + 0", "contradict"]);
-    parts("6+5?", "6+4-2?", &["10 0 -", "= 11 12", "contradict"]);
-    let lines = ["6 0 +", "7 + 0", "= 8 11", "contradict"];
+    parts("6+5?", "6+4-2?", &["10 0 -", &months(11, 12), "contradict"]);
+    let lines = ["6 0 +", "7 + 0", &months(8, 11), "contradict"];
     parts("7+1?", "6+5?", &lines);
     // A further leap behind the shorter expiry does not mend it.
-    let lines = ["6 + -", "8 ? +", "= 7 9", "contradict"];
+    let lines = ["6 + -", "8 ? +", &months(7, 9), "contradict"];
     parts("6+1?", "6-2+1?", &lines);
 }
 
@@ -85,7 +94,7 @@ fn the_last_months() {
     // 999 + 999 + 401 is 2399, the last month that may have a leap.
     let with_leap = "999+999+401+1?";
     parts("999+999+402?", with_leap, &["2399 0 +", "contradict"]);
-    let lines = ["2399 ? +", "= 2399 2400", "extends 2"];
+    let lines = ["2399 ? +", &months(2399, 2400), "extends 2"];
     parts("999+999+401?", with_leap, &lines);
 }
 
@@ -97,12 +106,13 @@ fn the_longest_comparison() {
     let mut lines: Vec<String> = (998..=1_509)
         .map(|m| format!("{m} {}", if m % 2 == 1 { "+ 0" } else { "0 +" }))
         .collect();
-    lines.extend(["= 2399 2400".to_string(), "contradict".to_string()]);
+    // 1 December 2171 and 1 January 2172.
+    lines.extend(["= 114335 114366", "contradict"].map(String::from));
     let lines: Vec<&str> = lines.iter().map(String::as_str).collect();
     parts(&first, &second, &lines);
-    // 510 leap lines of 9 bytes and 2 of 8, then 12 and 11.
-    let length = 510 * 9 + 2 * 8 + 12 + 11;
-    assert_eq!(length, 4_629);
+    // 510 leap lines of 9 bytes and 2 of 8, then 16 and 11.
+    let length = 510 * 9 + 2 * 8 + 16 + 11;
+    assert_eq!(length, 4_633);
     assert_eq!(compared(&first, &second).map(|t| t.len()), Ok(length));
 }
 
@@ -140,8 +150,8 @@ fn refused_lists() {
 
 #[test]
 fn rooms() {
-    let whole = b"12 + 0\n18 ? +\n= 17 23\ncontradict\n";
-    assert_eq!(whole.len(), 7 + 7 + 8 + 11);
+    let whole = b"12 + 0\n18 ? +\n= 41834 42017\ncontradict\n";
+    assert_eq!(whole.len(), 7 + 7 + 14 + 11);
     for room in 0..whole.len() + 20 {
         let mut out = vec![b'.'; room];
         let result = compare_text(b"6+6+5?", b"6+12+5?", &mut out);
@@ -188,25 +198,27 @@ fn the_longer_list() {
 
 #[test]
 fn extension_of_schedules() {
-    let s = raw(&[(6, 0)], 11);
+    let s = to_month(&[(6, 0)], 11);
     let yes = |longer: &Raw, shorter: &Raw| assert_eq!(extends(longer, shorter), (0, true));
     let no = |longer: &Raw, shorter: &Raw| assert_eq!(extends(longer, shorter), (0, false));
     yes(&s, &s);
-    yes(&raw(&[(6, 0)], 12), &s);
-    no(&s, &raw(&[(6, 0)], 12));
-    yes(&raw(&[(6, 0), (11, 1)], 12), &s);
-    no(&raw(&[(6, 0), (10, 1)], 12), &s);
-    no(&raw(&[(6, 1)], 12), &s);
-    no(&raw(&[], 12), &s);
-    no(&raw(&[(7, 0)], 12), &s);
-    no(&raw(&[(6, 0)], 10), &s);
-    yes(&s, &raw(&[], 6));
-    no(&s, &raw(&[], 7));
+    yes(&to_month(&[(6, 0)], 12), &s);
+    no(&s, &to_month(&[(6, 0)], 12));
+    yes(&to_month(&[(6, 0), (11, 1)], 12), &s);
+    no(&to_month(&[(6, 0), (10, 1)], 12), &s);
+    no(&to_month(&[(6, 1)], 12), &s);
+    no(&to_month(&[], 12), &s);
+    no(&to_month(&[(7, 0)], 12), &s);
+    no(&to_month(&[(6, 0)], 10), &s);
+    yes(&s, &to_month(&[], 6));
+    no(&s, &to_month(&[], 7));
     let malformed = [
         Raw::blank(),
-        raw(&[(6, 0)], 6),
-        raw(&[(6, 2)], 11),
-        raw(&[], 1_000),
+        to_month(&[(6, 0)], 6),
+        to_month(&[(6, 2)], 11),
+        to_month(&[], 1_000),
+        raw(&[(6, 0)], 11),
+        raw(&[(6, 0)], 114_367),
     ];
     for bad in &malformed {
         assert_eq!(extends(&s, bad), (11, false));
@@ -215,14 +227,41 @@ fn extension_of_schedules() {
     }
 }
 
+/// Two lists that expire within a month, or one of them.
+#[test]
+fn extension_to_the_day() {
+    let yes = |longer: &Raw, shorter: &Raw| assert_eq!(extends(longer, shorter), (0, true));
+    let no = |longer: &Raw, shorter: &Raw| assert_eq!(extends(longer, shorter), (0, false));
+    // Month 6 starts on 41499, month 11 on 41652.
+    let s = raw(&[(6, 0)], 41_679);
+    yes(&s, &s);
+    for later in [41_680, 41_682, 41_683, 50_000] {
+        yes(&raw(&[(6, 0)], later), &s);
+        no(&s, &raw(&[(6, 0)], later));
+    }
+    // It knows that there is no leap at month 11, and nothing of month 12.
+    no(&raw(&[(6, 0), (11, 0)], 41_679), &s);
+    no(&raw(&[(6, 0), (11, 0)], 41_700), &s);
+    yes(&raw(&[(6, 0), (12, 0)], 41_700), &s);
+    yes(&raw(&[(6, 0), (11, 0)], 41_679), &to_month(&[(6, 0)], 11));
+    // Before the leap's month, on its first day, and a day later.
+    yes(&s, &raw(&[], 41_498));
+    yes(&s, &raw(&[], 41_499));
+    no(&s, &raw(&[], 41_500));
+    yes(&s, &raw(&[(6, 0)], 41_500));
+    no(&s, &raw(&[(6, 1)], 41_500));
+    no(&raw(&[], 41_500), &raw(&[(6, 0)], 41_500));
+    no(&raw(&[(6, 1)], 41_500), &raw(&[(6, 0)], 41_500));
+}
+
 /// Two lists that are often related: one made longer, or with one word changed.
 fn pair(rng: &mut Rng) -> (Raw, Raw) {
     loop {
-        let one = list(rng);
+        let one = first_list(rng);
         let mut other = match rng.range(0, 7) {
             0 => one.clone(),
-            1 => list(rng),
-            _ => longer(rng, &one),
+            1 => first_list(rng),
+            _ => on_a_first(&longer(rng, &one)),
         };
         if other.count > 0 && rng.chance(3) {
             let at = rng.range(0, u64::from(other.count) - 1) as usize;
@@ -248,16 +287,17 @@ fn spelt(list: &Raw) -> String {
     String::from_utf8(out[..written as usize].to_vec()).unwrap()
 }
 
-/// Whether one list extends the other, in 01's words.
+/// Whether one list extends the other, in the words of 01 and 10/14.
 fn by_words(longer: &Raw, shorter: &Raw) -> bool {
-    let below = leaps_of(longer).iter().filter(|l| l.0 < shorter.expiry);
-    below.eq(leaps_of(shorter)) && longer.expiry >= shorter.expiry
+    let known = |l: &&(u32, u32)| month_mjd(l.0) < shorter.expiry_mjd.into();
+    let same = leaps_of(longer).iter().filter(known).eq(leaps_of(shorter));
+    same && longer.expiry_mjd >= shorter.expiry_mjd
 }
 
 /// A list's mark in a month, from its leaps.
 fn mark(list: &Raw, month: u32) -> &'static str {
     match leaps_of(list).iter().find(|l| l.0 == month) {
-        _ if month >= list.expiry => "?",
+        _ if month_mjd(month) >= list.expiry_mjd.into() => "?",
         None => "0",
         Some((_, 0)) => "+",
         Some(_) => "-",
@@ -287,8 +327,8 @@ fn lines_of_random_pairs() {
         assert_eq!(lines.is_empty(), one == other);
 
         // The expiries, if they differ.
-        if one.expiry != other.expiry {
-            let expiries = format!("= {} {}", one.expiry, other.expiry);
+        if one.expiry_mjd != other.expiry_mjd {
+            let expiries = format!("= {} {}", one.expiry_mjd, other.expiry_mjd);
             assert_eq!(lines.pop(), Some(expiries.as_str()));
         }
 

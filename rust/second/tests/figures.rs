@@ -20,6 +20,7 @@ fn figures_are_told_apart_and_complete() {
     for n in ["P11a", "P11b", "P12a", "P12b", "A", "B", "7/14"] {
         assert!(names.contains(n), "{n}");
     }
+    assert!(names.iter().any(|n| n.starts_with("10/14 ")));
     let rows = all.iter().filter(|f| f.name.starts_with("002 ")).count();
     assert_eq!(rows, 2 * (INSERTED.len() + DELETED.len()));
 }
@@ -27,10 +28,10 @@ fn figures_are_told_apart_and_complete() {
 #[test]
 fn a_wrong_figure_says_so() {
     let mut f = figures().swap_remove(0);
-    assert_eq!(f.to_string(), "P1: read \"5?\" -> 0 0 none 5 ok");
+    assert_eq!(f.to_string(), "P1: read \"5?\" -> 0 0 none 41469 ok");
     f.expected = "0 0 none 6".to_string();
     assert_eq!(
         f.to_string(),
-        "P1: read \"5?\" -> 0 0 none 5 WRONG expected 0 0 none 6"
+        "P1: read \"5?\" -> 0 0 none 41469 WRONG expected 0 0 none 6"
     );
 }

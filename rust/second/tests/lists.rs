@@ -2,7 +2,7 @@ mod common;
 
 use std::collections::HashSet;
 
-use common::{leaps_of, list, raw, Rng};
+use common::{first_list, leaps_of, list, month_mjd, month_of, raw, to_month, Rng};
 use second::*;
 
 fn text(t: &str) -> (u8, u64) {
@@ -151,9 +151,9 @@ fn nybble_refusals() {
     assert_eq!(hex("f4f4"), (6, 2));
     assert_eq!(hex("b0"), (0, 0));
     let r = read_nybbles(&[0x0b]).schedule; // 6 x 5 months to the expiry
-    assert_eq!((leaps_of(&r), r.expiry), (&[(6, 0)][..], 36));
+    assert_eq!(r, to_month(&[(6, 0)], 36));
     let r = read_nybbles(&[0xd4, 0xe0, 0xff]).schedule;
-    assert_eq!((leaps_of(&r), r.expiry), (&[(5, 0), (6, 1)][..], 22));
+    assert_eq!(r, to_month(&[(5, 0), (6, 1)], 22));
 }
 
 #[test]
@@ -264,45 +264,66 @@ fn writer_spellings() {
         assert_eq!(n, 0);
         second::ask::to_hex(&out[..count as usize])
     };
-    assert_eq!(write(&raw(&[], 5)), "f4"); // the memo's short end isn't used
-    assert_eq!(write(&raw(&[(6, 0)], 11)), "90f4");
-    assert_eq!(write(&raw(&[(6, 0), (12, 0)], 17)), "00f4");
-    assert_eq!(write(&raw(&[(6, 1)], 11)), "a0f4");
-    assert_eq!(write(&raw(&[(48, 0)], 53)), "97f4");
-    assert_eq!(write(&raw(&[(54, 0)], 59)), "98f4");
-    assert_eq!(write(&raw(&[(96, 0)], 101)), "9ff4");
-    assert_eq!(write(&raw(&[(102, 0)], 107)), "8f90f4");
-    assert_eq!(write(&raw(&[(102, 0), (108, 0)], 113)), "8f00f4");
-    assert_eq!(write(&raw(&[(6, 0), (108, 0)], 113)), "08f0f4");
-    assert_eq!(write(&raw(&[(150, 0)], 155)), "8f98f4");
-    assert_eq!(write(&raw(&[], 16)), "ff");
-    assert_eq!(write(&raw(&[], 17)), "81f4");
-    assert_eq!(write(&raw(&[], 12)), "b1");
-    assert_eq!(write(&raw(&[], 18)), "b2");
-    assert_eq!(write(&raw(&[], 96)), "bf");
-    assert_eq!(write(&raw(&[], 97)), "8ff0");
-    assert_eq!(write(&raw(&[], 102)), "8fb0");
-    assert_eq!(write(&raw(&[], 109)), "8f81f0");
-    assert_eq!(write(&raw(&[], 192)), "8fbf");
-    assert_eq!(write(&raw(&[], 193)), "8f8ff0");
-    assert_eq!(write(&raw(&[(7, 0), (21, 1)], 22)), "d6edf0");
+    assert_eq!(write(&to_month(&[], 5)), "f4"); // the memo's short end isn't used
+    assert_eq!(write(&to_month(&[(6, 0)], 11)), "90f4");
+    assert_eq!(write(&to_month(&[(6, 0), (12, 0)], 17)), "00f4");
+    assert_eq!(write(&to_month(&[(6, 1)], 11)), "a0f4");
+    assert_eq!(write(&to_month(&[(48, 0)], 53)), "97f4");
+    assert_eq!(write(&to_month(&[(54, 0)], 59)), "98f4");
+    assert_eq!(write(&to_month(&[(96, 0)], 101)), "9ff4");
+    assert_eq!(write(&to_month(&[(102, 0)], 107)), "8f90f4");
+    assert_eq!(write(&to_month(&[(102, 0), (108, 0)], 113)), "8f00f4");
+    assert_eq!(write(&to_month(&[(6, 0), (108, 0)], 113)), "08f0f4");
+    assert_eq!(write(&to_month(&[(150, 0)], 155)), "8f98f4");
+    assert_eq!(write(&to_month(&[], 16)), "ff");
+    assert_eq!(write(&to_month(&[], 17)), "81f4");
+    assert_eq!(write(&to_month(&[], 12)), "b1");
+    assert_eq!(write(&to_month(&[], 18)), "b2");
+    assert_eq!(write(&to_month(&[], 96)), "bf");
+    assert_eq!(write(&to_month(&[], 97)), "8ff0");
+    assert_eq!(write(&to_month(&[], 102)), "8fb0");
+    assert_eq!(write(&to_month(&[], 109)), "8f81f0");
+    assert_eq!(write(&to_month(&[], 192)), "8fbf");
+    assert_eq!(write(&to_month(&[], 193)), "8f8ff0");
+    assert_eq!(write(&to_month(&[(7, 0), (21, 1)], 22)), "d6edf0");
     // The 9 goes before the last single nybble, not the first.
     assert_eq!(
-        write(&raw(&[(6, 0), (12, 1), (18, 0), (24, 0)], 29)),
+        write(&to_month(&[(6, 0), (12, 1), (18, 0), (24, 0)], 29)),
         "0a0090f4"
     );
+}
+
+type Writer = fn(&Raw, &mut [u8]) -> (u8, u64);
+const WRITERS: [Writer; 2] = [write_text, write_nybbles];
+
+/// A writer refuses a schedule with that number in every room, and changes nothing.
+fn refuses(write: Writer, s: &Raw, number: u8) {
+    for room in [0, 1, 2, 5, 800] {
+        let mut out = vec![b'.'; room];
+        assert_eq!(write(s, &mut out), (number, 0));
+        assert!(out.iter().all(|&b| b == b'.'));
+    }
 }
 
 #[test]
 fn writers_keep_their_hands_off() {
     let mut rng = Rng::new(4);
-    type Writer = fn(&Raw, &mut [u8]) -> (u8, u64);
-    let writers: [Writer; 2] = [write_text, write_nybbles];
-    for _ in 0..300 {
+    let mut met = [0, 0];
+    for _ in 0..600 {
         let good = list(&mut rng);
         let mut bad = good.clone();
-        bad.expiry += 2401;
-        for write in writers {
+        bad.expiry_mjd += 73_050;
+        let last = leaps_of(&good).last().map_or(0, |leap| leap.0);
+        let no_gap = month_of(good.expiry_mjd.into()) == last;
+        met[usize::from(no_gap)] += 1;
+        for write in WRITERS {
+            refuses(write, &bad, 11); // 11 before 7
+            if no_gap {
+                refuses(write, &good, 17); // and 17 too
+                bad.expiry_mjd = month_mjd(last) as u32;
+                refuses(write, &bad, 11); // 11 before 17
+                continue;
+            }
             let mut full = [0; 2048];
             let (n, count) = write(&good, &mut full);
             assert_eq!(n, 0);
@@ -320,30 +341,87 @@ fn writers_keep_their_hands_off() {
                     assert_eq!(out[..count], full[..count]);
                     assert!(out[count..].iter().all(|&b| b == fill));
                 }
-                let mut out = vec![fill; room];
-                assert_eq!(write(&bad, &mut out), (11, 0)); // 11 before 7
-                assert!(out.iter().all(|&b| b == fill));
             }
         }
     }
+    assert!(met.iter().all(|&n| n > 50), "{met:?}");
+}
+
+/// What a list that is written reads back as, in both formats.
+fn back(s: &Raw) -> Result<Raw, u8> {
+    let mut out = [0; 2048];
+    let (n, count) = write_text(s, &mut out);
+    let text = read_text(&out[..count as usize]);
+    let (other, count) = write_nybbles(s, &mut out);
+    let nybbles = read_nybbles(&out[..count as usize]);
+    assert_eq!(n, other);
+    if n != 0 {
+        return Err(n);
+    }
+    assert_eq!((text.number, text.place), (0, 0));
+    assert_eq!(text, nybbles);
+    Ok(text.schedule)
 }
 
 #[test]
 fn round_trips() {
     let mut rng = Rng::new(5);
     for _ in 0..5_000 {
-        let s = list(&mut rng);
+        let s = first_list(&mut rng);
         assert!(well_formed(&s));
-        let mut out = [0; 2048];
-        let (n, count) = write_text(&s, &mut out);
-        assert_eq!(n, 0);
-        let r = read_text(&out[..count as usize]);
-        assert_eq!((r.number, r.place, &r.schedule), (0, 0, &s));
-        let (n, count) = write_nybbles(&s, &mut out);
-        assert_eq!(n, 0);
-        let r = read_nybbles(&out[..count as usize]);
-        assert_eq!((r.number, r.place, &r.schedule), (0, 0, &s));
+        assert_eq!(back(&s).as_ref(), Ok(&s));
     }
+}
+
+/// A list that expires within a month reads back as itself rounded down, which it
+/// extends, and is refused where that leaves no gap.
+#[test]
+fn rounded_down() {
+    let mut rng = Rng::new(15);
+    let mut met = [0; 3];
+    for _ in 0..5_000 {
+        let s = list(&mut rng);
+        let leaps = leaps_of(&s);
+        let month = month_of(s.expiry_mjd.into());
+        let rounded = to_month(leaps, month);
+        let last = leaps.last().map_or(0, |leap| leap.0);
+        let which = if month == last {
+            assert_eq!(back(&s), Err(17));
+            0
+        } else {
+            assert_eq!(back(&s).as_ref(), Ok(&rounded));
+            assert_eq!(extends(&s, &rounded), (0, true));
+            assert_eq!(extends(&rounded, &s), (0, rounded == s));
+            1 + usize::from(rounded == s)
+        };
+        met[which] += 1;
+    }
+    assert!(met.iter().all(|&n| n > 300), "{met:?}");
+}
+
+/// Every expiry day of a list in turn.
+#[test]
+fn rounded_down_day_by_day() {
+    // Month 6 starts on 41499, 7 on 41530, 8 on 41561, and 999 after 6 on 71906.
+    for day in 41_500..=41_529 {
+        assert_eq!(back(&raw(&[(6, 1)], day)), Err(17));
+    }
+    for day in 41_530..=41_560 {
+        assert_eq!(back(&raw(&[(6, 1)], day)), Ok(raw(&[(6, 1)], 41_530)));
+    }
+    assert_eq!(back(&raw(&[(6, 1)], 41_561)), Ok(raw(&[(6, 1)], 41_561)));
+    for day in 71_906..=71_936 {
+        assert_eq!(back(&raw(&[(6, 1)], day)), Ok(raw(&[(6, 1)], 71_906)));
+    }
+    assert_eq!(back(&raw(&[(6, 1)], 71_937)), Err(11));
+    // The last expiries: month 2399 starts on 114335, and month 2400 on 114366.
+    let far = [(999, 0), (1998, 0)];
+    assert_eq!(back(&raw(&far, 114_365)), Ok(raw(&far, 114_335)));
+    assert_eq!(back(&raw(&far, 114_366)), Ok(raw(&far, 114_366)));
+    let end = [(999, 0), (1998, 0), (2399, 0)];
+    assert_eq!(back(&raw(&end, 114_336)), Err(17));
+    assert_eq!(back(&raw(&end, 114_365)), Err(17));
+    assert_eq!(back(&raw(&end, 114_366)), Ok(raw(&end, 114_366)));
 }
 
 /// Other spellings of a nybble list than the writer's read the same.
@@ -353,12 +431,12 @@ fn every_spelling_is_taken() {
     let mut lone = 0;
     let mut done = 0;
     while done < 2_000 {
-        let s = list(&mut rng);
+        let s = first_list(&mut rng);
         let mut nybbles: Vec<u8> = Vec::new();
         let mut singles: Vec<usize> = Vec::new();
         let mut at = 0;
         let marks = leaps_of(&s).iter().map(|&(m, neg)| (m, 1 + neg as u8));
-        for (month, np) in marks.chain([(s.expiry, 3)]) {
+        for (month, np) in marks.chain([(month_of(s.expiry_mjd.into()), 3)]) {
             let mut left = month - at;
             at = month;
             while left > 0 {

@@ -2,7 +2,7 @@
 
 mod common;
 
-use common::{list, longer, month_mjd, raw, Rng};
+use common::{first_list, leaps_of, longer, month_mjd, on_a_first, raw, to_month, Rng};
 use second::replay::{replay, replay_end, run, State};
 use second::*;
 
@@ -267,7 +267,7 @@ fn rooms() {
         );
         assert_eq!(&out[..written], &answer.repeat(2)[..written]);
         assert!(out[written..].iter().all(|&b| b == b'.'));
-        let known = raw(&[(6, 0)], 11);
+        let known = to_month(&[(6, 0)], 11);
         let current = if room < 22 {
             Raw::blank()
         } else {
@@ -294,24 +294,44 @@ fn rooms() {
 
 #[test]
 fn words_that_stand_for_no_list() {
-    let mut sign = raw(&[(6, 0)], 11);
+    let mut sign = to_month(&[(6, 0)], 11);
     sign.words[0].1 = 2;
-    let mut far = raw(&[(6, 0)], 11);
+    let mut far = to_month(&[(6, 0)], 11);
     far.words[255] = (u32::MAX, u32::MAX);
-    for bad in [sign, far, raw(&[], 1_000), raw(&[(6, 0)], 6), Raw::blank()] {
-        let good = raw(&[(6, 0)], 11);
+    // The last of them has an expiry month, 11, where the expiry day is due.
+    let lists = [
+        sign,
+        far,
+        to_month(&[], 1_000),
+        to_month(&[(6, 0)], 6),
+        Raw::blank(),
+        raw(&[(6, 0)], 11),
+    ];
+    for bad in lists {
+        let good = to_month(&[(6, 0)], 11);
         let mut state = State::new(bad.clone(), good.clone());
         let printed = from(&mut state, b"Q 41498 0\nQ 0 999999999999999999\n");
         assert_eq!(printed, b"!11\n!11\n");
         assert_eq!((state.current(), state.stored()), (&bad, &good));
         // S and Z copy the words as they are.
         assert_eq!(from(&mut state, b"S\nL 5?\n"), b"");
-        assert_eq!((state.current(), state.stored()), (&raw(&[], 5), &bad));
+        assert_eq!((state.current(), state.stored()), (&to_month(&[], 5), &bad));
         assert_eq!(from(&mut state, b"Z\nQ 41498 0\n"), b"!11\n");
         assert_eq!((state.current(), state.stored()), (&bad, &bad));
         assert_eq!(from(&mut state, b"L 6+5?\nQ 41498 0\n"), b"41498 0\n");
         assert_eq!((state.current(), state.stored()), (&good, &bad));
     }
+}
+
+/// A day that goes on from a list that expires within a month, on 30 November 1972.
+#[test]
+fn a_last_day_that_is_known_whole() {
+    let mut state = State::new(Raw::blank(), raw(&[(6, 0)], 41_651));
+    let trace = b"Z\nQ 41650 86399999999\nQ 41650 86400000000\nQ 41651 0\nL 6+5?\nZ\nS\n";
+    let printed = b"41650 86399999999000\n!9\n!10\n";
+    assert_eq!(from(&mut state, trace), printed);
+    assert_eq!(state.current(), &raw(&[(6, 0)], 41_651));
+    assert_eq!(state.stored(), state.current());
 }
 
 fn spelt(list: &Raw) -> String {
@@ -323,12 +343,12 @@ fn spelt(list: &Raw) -> String {
 
 /// A question near a leap or the expiry of a list.
 fn question(rng: &mut Rng, list: &Raw) -> String {
-    let months: Vec<u32> = common::leaps_of(list)
+    let days: Vec<u64> = leaps_of(list)
         .iter()
-        .map(|l| l.0)
-        .chain([list.expiry])
+        .map(|l| month_mjd(l.0))
+        .chain([list.expiry_mjd.into()])
         .collect();
-    let mjd = month_mjd(rng.pick(&months)) - rng.range(0, 2);
+    let mjd = rng.pick(&days) - rng.range(0, 2);
     let micros = rng.range(85_398, 86_402) * 1_000_000 - rng.range(0, 1);
     format!("Q {mjd} {micros}\n")
 }
@@ -360,7 +380,7 @@ fn trace(rng: &mut Rng, lists: &[Raw], lines: usize) -> Vec<String> {
 fn cut_at_line_ends() {
     let mut rng = Rng::new(12);
     for _ in 0..300 {
-        let lists: Vec<Raw> = (0..3).map(|_| list(&mut rng)).collect();
+        let lists: Vec<Raw> = (0..3).map(|_| first_list(&mut rng)).collect();
         let lines = trace(&mut rng, &lists, 20);
         let mut whole = State::default();
         let printed = from(&mut whole, lines.concat().as_bytes());
@@ -404,9 +424,10 @@ fn extending_lists_keep_every_time() {
     let mut rng = Rng::new(14);
     let (mut kept, mut changed) = (0, 0);
     for _ in 0..200 {
-        let mut lists = vec![list(&mut rng)];
+        let mut lists = vec![first_list(&mut rng)];
         for _ in 0..3 {
-            lists.push(longer(&mut rng, &lists[lists.len() - 1]));
+            let next = longer(&mut rng, &lists[lists.len() - 1]);
+            lists.push(on_a_first(&next));
         }
         for (at, one) in lists.iter().enumerate() {
             let others = lists[..at].iter();

@@ -1,6 +1,6 @@
 mod common;
 
-use common::{leaps_of, list, longer, month_mjd, raw, Rng};
+use common::{leaps_of, list, longer, month_mjd, month_of, raw, to_month, Rng};
 use second::*;
 
 const DAY: u64 = 86_400_000_000;
@@ -21,8 +21,15 @@ fn at_day(s: &Raw, mjd: u64) -> (i32, i64) {
     (dtai, leap)
 }
 
+/// Z, the last day before the expiry.
 fn last_day(s: &Raw) -> u64 {
-    month_mjd(s.expiry) - 1
+    u64::from(s.expiry_mjd) - 1
+}
+
+/// Whether Z has its cut-offs, which is so before the first of a month.
+fn is_cut_off(s: &Raw) -> bool {
+    let expiry = s.expiry_mjd.into();
+    month_mjd(month_of(expiry)) == expiry
 }
 
 /// A date of interest: near an end, near a leap, or anywhere.
@@ -108,6 +115,8 @@ fn agrees_with_01s_formulas() {
         let s = list(&mut rng);
         let p = Prepared::new(&s).unwrap();
         let z = last_day(&s);
+        // No day, where Z is known whole.
+        let cut_day = if is_cut_off(&s) { z } else { u64::MAX };
         for _ in 0..60 {
             let mjd = some_mjd(&mut rng, &s);
             let (dtai, leap) = at_day(&s, mjd);
@@ -129,9 +138,9 @@ fn agrees_with_01s_formulas() {
                     8
                 } else if t >= 86_401_000_000 {
                     9
-                } else if mjd > z || mjd == z && t >= cut {
+                } else if mjd > z || mjd == cut_day && t >= cut {
                     10
-                } else if mjd < z && t >= length {
+                } else if mjd != cut_day && t >= length {
                     9
                 } else {
                     0
@@ -174,7 +183,7 @@ fn agrees_with_01s_formulas() {
                 8
             } else if n >= 86_400_000_000_000 {
                 9
-            } else if mjd > z || mjd == z && n >= 85_399_000_000_000 {
+            } else if mjd > z || mjd == cut_day && n >= 85_399_000_000_000 {
                 10
             } else {
                 0
@@ -187,7 +196,7 @@ fn agrees_with_01s_formulas() {
                 match number {
                     0 => assert!(next > n),
                     9 => assert_eq!(back + 1, length),
-                    _ => assert_eq!((mjd, back), (z, 85_398_999_999)),
+                    _ => assert_eq!((mjd, back), (cut_day, 85_398_999_999)),
                 }
             } else {
                 assert_eq!(back, 0);
@@ -196,7 +205,8 @@ fn agrees_with_01s_formulas() {
             let tai = some_tai(&mut rng, &s);
             let (number, day, t) = p.tai_to_utc(tai);
             let z_dtai = i64::from(at_day(&s, z).0);
-            let end = (DAY * (z - 41_317) + 86_399_000_000) as i64 + 1_000_000 * z_dtai;
+            let z_end = if cut_day == z { 86_399_000_000 } else { DAY };
+            let end = (DAY * (z - 41_317) + z_end) as i64 + 1_000_000 * z_dtai;
             let want = if tai < 10_000_000 {
                 8
             } else if i128::from(tai) >= i128::from(end) {
@@ -246,7 +256,7 @@ fn day_by_day() {
             let tai = ((DAY * (mjd - 41_317)) as i64 + 1_000_000 * i64::from(dtai)) as u64;
             assert_eq!(p.utc_to_tai(mjd, 0), (0, tai));
             assert_eq!(p.tai_to_utc(tai), (0, mjd, 0));
-            if mjd < z {
+            if mjd < z || !is_cut_off(&s) {
                 let leap = *firsts.get(&(mjd + 1)).unwrap_or(&0);
                 let last = (DAY as i64 + 1_000_000 * i64::from(leap) - 1) as u64;
                 assert_eq!(p.utc_to_tai(mjd, last), (0, tai + last));
@@ -262,7 +272,7 @@ fn day_by_day() {
 #[test]
 fn refusal_orders() {
     let blank = Raw::blank();
-    let mut bad = raw(&[(6, 0)], 11);
+    let mut bad = to_month(&[(6, 0)], 11);
     bad.words[200] = (0, 1);
     for s in [&blank, &bad] {
         for mjd in [0, 41_316, 41_317, u64::MAX] {
@@ -276,7 +286,7 @@ fn refusal_orders() {
         assert_eq!(tai_to_utc(s, 0), (11, 0, 0));
         assert_eq!(tai_to_utc(s, u64::MAX), (11, 0, 0));
     }
-    let s = raw(&[(6, 0)], 11); // leap day 41498, Z is 1972-11-30, MJD 41651
+    let s = to_month(&[(6, 0)], 11); // leap day 41498, Z is 1972-11-30, MJD 41651
     let too_much = 86_401_000_000;
     for ask in [utc_to_tai, utc_to_uts] {
         assert_eq!(ask(&s, 41_316, 0), (8, 0));
@@ -310,21 +320,83 @@ fn refusal_orders() {
     );
     assert_eq!(uts_to_utc(&s, 41_498, uts_day - 1), (0, 86_400_999_999));
     assert_eq!(uts_to_utc(&s, 41_499, uts_day - 1), (0, 86_399_999_999));
-    let n = raw(&[(6, 1)], 11);
+    let n = to_month(&[(6, 1)], 11);
     assert_eq!(uts_to_utc(&n, 41_498, uts_day - 1), (0, 86_398_999_999));
     assert_eq!(utc_to_tai(&n, 41_498, 86_399_000_000), (9, 0));
     assert_eq!(dtai(&s, 41_651), (0, 11));
     assert_eq!(dtai(&s, 41_652), (10, 0));
     assert_eq!(dtai(&s, u64::MAX), (10, 0));
     assert_eq!(tai_to_utc(&s, u64::MAX), (10, 0, 0));
-    assert_eq!(dtai(&raw(&[(900, 0), (1800, 0)], 2400), 114_365), (0, 12));
-    assert_eq!(dtai(&raw(&[(900, 0), (1800, 0)], 2400), 114_366), (10, 0));
+    assert_eq!(
+        dtai(&to_month(&[(900, 0), (1800, 0)], 2400), 114_365),
+        (0, 12)
+    );
+    assert_eq!(
+        dtai(&to_month(&[(900, 0), (1800, 0)], 2400), 114_366),
+        (10, 0)
+    );
+}
+
+/// The last day before an expiry within a month, to its end and beyond.
+#[test]
+fn a_last_day_that_is_known_whole() {
+    let leap = [(6, 0)];
+    let at = |day: u64, t: u64, dtai: u64| DAY * (day - 41_317) + t + 1_000_000 * dtai;
+    // 30 November 1972, or the second day of July, or the last day of a month: Z is
+    // the day before.
+    for (expiry, dtai) in [(41_650, 11), (41_500, 11), (41_651, 11), (41_498, 10)] {
+        let s = if dtai == 11 {
+            raw(&leap, expiry)
+        } else {
+            raw(&[], expiry)
+        };
+        let z = u64::from(expiry) - 1;
+        assert_eq!(second::dtai(&s, z), (0, dtai as i32));
+        assert_eq!(second::dtai(&s, z + 1), (10, 0));
+        for t in [85_399_000_000, 86_399_000_000, DAY - 1] {
+            assert_eq!(utc_to_tai(&s, z, t), (0, at(z, t, dtai)));
+            assert_eq!(tai_to_utc(&s, at(z, t, dtai)), (0, z, t));
+            assert_eq!(utc_to_uts(&s, z, t), (0, 1_000 * t));
+            assert_eq!(uts_to_utc(&s, z, 1_000 * t), (0, t));
+            assert_eq!(uts_to_utc(&s, z, 1_000 * t + 999), (0, t));
+        }
+        for t in [DAY, DAY + 999_999, DAY + 1_000_000, u64::MAX] {
+            assert_eq!(utc_to_tai(&s, z, t), (9, 0));
+            assert_eq!(utc_to_uts(&s, z, t), (9, 0));
+            assert_eq!(uts_to_utc(&s, z, t.saturating_mul(1_000)), (9, 0));
+        }
+        assert_eq!(tai_to_utc(&s, at(z, DAY, dtai)), (10, 0, 0));
+        assert_eq!(tai_to_utc(&s, at(z, DAY, dtai) + 1), (10, 0, 0));
+        assert_eq!(utc_to_tai(&s, z + 1, 0), (10, 0));
+        assert_eq!(utc_to_uts(&s, z + 1, DAY), (10, 0));
+        assert_eq!(uts_to_utc(&s, z + 1, 0), (10, 0));
+    }
+    // Its stretches end with Z. Days 182 and 362 from 1972 on are 1 July and 28 December.
+    let p = Prepared::new(&raw(&leap, 41_679)).unwrap();
+    assert_eq!(p.stretches(), [(0, 181, 10), (182, 361, 11)]);
+    assert_eq!(p.unknown_from(), 362);
+    // The day before the leap, smoothed to its end, under a list that expires a day
+    // after the leap; and that day as Z under one that expires at it.
+    let (known, cut_off) = (raw(&leap, 41_500), raw(&[], 41_499));
+    assert_eq!(utc_to_uts(&known, 41_498, DAY), (0, 86_399_001_000_000));
+    assert_eq!(utc_to_uts(&cut_off, 41_498, DAY), (10, 0));
+    assert_eq!(utc_to_tai(&cut_off, 41_498, DAY - 1), (10, 0));
+    // The last day that any list knows whole is the one before the last of 2171.
+    let far = raw(&[(999, 0), (1998, 0)], 114_365);
+    assert_eq!(utc_to_uts(&far, 114_364, DAY - 1), (0, 86_399_999_999_000));
+    assert_eq!(utc_to_uts(&far, 114_365, 0), (10, 0));
+    let end = raw(&[(999, 0), (1998, 0)], 114_366);
+    assert_eq!(
+        utc_to_uts(&end, 114_365, 85_398_999_999),
+        (0, 85_398_999_999_000)
+    );
+    assert_eq!(utc_to_uts(&end, 114_365, 85_399_000_000), (10, 0));
 }
 
 #[test]
 fn dtai_far_below_zero() {
     let leaps: Vec<(u32, u32)> = (1..=256).map(|m| (m, 1)).collect();
-    let s = raw(&leaps, 257);
+    let s = to_month(&leaps, 257);
     assert_eq!(dtai(&s, month_mjd(256)), (0, -246));
     let (n, tai) = utc_to_tai(&s, month_mjd(256), 0);
     assert_eq!(n, 0);
@@ -359,7 +431,7 @@ fn uts_rises() {
             }
             let (n, uts) = p.utc_to_uts(mjd, t);
             if n != 0 {
-                assert_eq!((n, mjd), (10, last_day(&s)));
+                assert_eq!((n, mjd, is_cut_off(&s)), (10, last_day(&s), true));
                 continue;
             }
             assert!(uts < 86_400_000_000_000);
@@ -447,10 +519,11 @@ fn demand_3() {
             continue;
         }
         let (forth, back) = (extends(&b, &a).1, extends(&a, &b).1);
-        // The definition in 01's words.
+        // The definition in 10/14's words.
         let by_words = |l: &Raw, s: &Raw| {
-            let below: Vec<_> = leaps_of(l).iter().filter(|w| w.0 < s.expiry).collect();
-            below == leaps_of(s).iter().collect::<Vec<_>>() && l.expiry >= s.expiry
+            let known = |w: &&(u32, u32)| month_mjd(w.0) < s.expiry_mjd.into();
+            let same = leaps_of(l).iter().filter(known).eq(leaps_of(s));
+            same && l.expiry_mjd >= s.expiry_mjd
         };
         assert_eq!(forth, by_words(&b, &a));
         assert_eq!(back, by_words(&a, &b));

@@ -33,7 +33,9 @@ returns-3 c =
     let extends = c .before .extends in
     let of-words = c .before .before .before .of-words in
     let of-words2 = c .before .before .of-words2 in
-    tested (meant (args .longer .now)) (meant (args .shorter .now)) (passed (is-list .ensures) (if1 .left)) (passed (is-list2 .ensures) (if2 .left)) _ (asked-of (of-words .ensures) (of-words2 .ensures) (yes-of .ensures) (extends .ensures))
+    let well = passed (is-list2 .ensures) (if2 .left) in
+    tested (meant (args .longer .now)) (meant (args .shorter .now)) (passed (is-list .ensures) (if1 .left)) well _
+    (asked-of (meant (args .longer .now)) (meant (args .shorter .now)) well (of-words .ensures) (of-words2 .ensures) (yes-of .ensures) (extends .ensures))
 
 pub leap-extends-spec : {M : Type 1} → statement M
 leap-extends-spec =

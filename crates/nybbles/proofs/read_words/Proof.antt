@@ -84,17 +84,17 @@ cast-out c =
 -- the expiry and no nybble after it
 returns-3 : tie.Need-returns-3 Inv-loop μ-loop
 returns-3 c =
-    let loop = c .before .before .before .before .before .before .before .before .before .before .before .loop in
-    let code-at = c .before .before .before .before .before .before .before .before .before .code-at in
-    let fault-of = c .before .before .before .before .before .before .before .before .fault-of in
-    let if1 = c .before .before .before .before .before .before .before .if1 in
-    let after-code = c .before .before .before .before .after-code in
-    let is-expiry = c .before .before .before .is-expiry in
-    let if2 = c .before .before .if2 in
-    let args = c .before .before .before .before .before .before .before .before .before .before .before .before .before .before .args in
-    let if3 = c .before .if3 in
+    let loop = c .before .before .before .before .before .before .before .before .before .before .before .before .loop in
+    let code-at = c .before .before .before .before .before .before .before .before .before .before .code-at in
+    let fault-of = c .before .before .before .before .before .before .before .before .before .fault-of in
+    let if1 = c .before .before .before .before .before .before .before .before .if1 in
+    let after-code = c .before .before .before .before .before .after-code in
+    let is-expiry = c .before .before .before .before .is-expiry in
+    let if2 = c .before .before .before .if2 in
+    let args = c .before .before .before .before .before .before .before .before .before .before .before .before .before .before .before .args in
+    let if3 = c .before .before .if3 in
     reading.accepts _ _ _ _ (loop .inv) _ (code-at .ensures) _ (fault-of .ensures) (if1 .left) _ _
-    (after-code .ensures) _ (is-expiry .ensures) (if2 .taken) (omega (arith, codes.count (args .bytes .now), if3 .left))
+    (after-code .ensures) _ (is-expiry .ensures) (if2 .taken) (omega (arith, codes.count (args .bytes .now), if3 .left)) _ (c .expiry-at .ensures)
 
 loop-less : tie.Need-loop-less Inv-loop μ-loop
 loop-less c =
@@ -143,6 +143,7 @@ read-words-spec =
     returns-2
     cast-out
     (λ c. search needs)
+    (λ c κs. search needs)
     (λ c. search needs)
     returns-3
     loop-less

@@ -1,4 +1,5 @@
--- `write_nybbles` meets its contract: one answer for a list that fits, one for a short output, one for a schedule that is not well formed.
+-- `write_nybbles` meets its contract: one answer for a list that fits, one for a short output, one for a schedule that can't be rounded down, one for a
+-- schedule that is not well formed.
 -- Assumes nothing.
 use mathlib.Core.Path.{refl, sym, _∙_}
 use borrow.Author.Needs.{needs}
@@ -9,36 +10,34 @@ use Rattle.nybbles.proofs.write_nybbles.Tie as tie
 
 put-codes-requires : tie.Need-put-codes-requires
 put-codes-requires c κs =
-    let counted = c .before .before .before in
-    let spelt = counted .before .before .spell .ensures in
-    ((spelt .few, spelt .full), packed.bytes-fit _ _ _ spelt _ (counted .nybble-count .ensures) _ (c .before .before .if2 .taken))
+    let spelt = c .before .before .before .before .before .spell .ensures in
+    ((spelt .few, spelt .full), packed.bytes-fit _ _ _ spelt _ (c .before .before .before .nybble-count .ensures) _ (c .before .before .if3 .taken))
 
 returns : tie.Need-returns
 returns c =
-    let put = c .before .before in
-    let counted = put .before .before .before .before in
-    let spelt = counted .before .before .spell .ensures in
-    let tested = counted .before .before .before .before in
-    let formed = sym (tested .before .is-well-formed .ensures) ∙ tested .if1 .taken in
-    answers.taken _ _ _ formed _ (packed.bytes-counted _ _ _ spelt _ (counted .nybble-count .ensures)) (put .before .before .before .if2 .taken) _
-    (packed.bytes-put _ _ _ spelt formed _ _ (put .put-codes .ensures))
+    let spelt = c .before .before .before .before .before .before .before .before .spell .ensures in
+    let formed = (sym (c .before .before .before .before .before .before .before .before .before .before .before .before .before .before .is-well-formed .ensures) ∙ c .before .before .before .before .before .before .before .before .before .before .before .before .before .if1 .taken) in
+    let gap = (sym (c .before .before .before .before .before .before .before .before .before .before .before .before .leaves-gap .ensures) ∙ c .before .before .before .before .before .before .before .before .before .before .before .if2 .taken) in
+    answers.taken _ _ _ formed gap _ (packed.bytes-counted _ _ _ spelt _ (c .before .before .before .before .before .before .nybble-count .ensures)) (c .before .before .before .before .before .if3 .taken) _
+    (packed.bytes-put _ _ _ spelt formed gap _ _ (c .before .before .put-codes .ensures))
 
 returns-2 : tie.Need-returns-2
 returns-2 c =
-    let counted = c .before in
-    let spelt = counted .before .before .spell .ensures in
-    let tested = counted .before .before .before .before in
-    answers.short _ _ _ (sym (tested .before .is-well-formed .ensures) ∙ tested .if1 .taken) _ (packed.bytes-counted _ _ _ spelt _ (counted .nybble-count .ensures)) (c .if2 .left)
+    let spelt = c .before .before .before .spell .ensures in
+    answers.short _ _ _ (sym (c .before .before .before .before .before .before .before .before .before .is-well-formed .ensures) ∙ c .before .before .before .before .before .before .before .before .if1 .taken) (sym (c .before .before .before .before .before .before .before .leaves-gap .ensures) ∙ c .before .before .before .before .before .before .if2 .taken) _ (packed.bytes-counted _ _ _ spelt _ (c .before .nybble-count .ensures)) (c .if3 .left)
 
 pub write-nybbles-spec : {M : Type 1} → statement M
 write-nybbles-spec =
     tie.close
     (tie.spec
     (λ c κs. search needs)
-    (λ c κs. (sym (c .before .before .is-well-formed .ensures) ∙ c .before .if1 .taken, refl))
+    (λ c κs. search needs)
+    (λ c κs. search needs)
+    (λ c κs. (((sym (c .before .before .before .before .before .is-well-formed .ensures) ∙ c .before .before .before .before .if1 .taken), (sym (c .before .before .before .leaves-gap .ensures) ∙ c .before .before .if2 .taken), c .before .expiry-month .ensures), refl))
     (λ c κs. search needs)
     put-codes-requires
     (λ c. search needs)
     returns
     returns-2
+    (λ c. answers.no-gap _ _ _ (sym (c .before .before .before .is-well-formed .ensures) ∙ c .before .before .if1 .taken) (sym (c .before .leaves-gap .ensures) ∙ c .if2 .left))
     (λ c. answers.wrong _ _ _ (sym (c .before .is-well-formed .ensures) ∙ c .if1 .left)))

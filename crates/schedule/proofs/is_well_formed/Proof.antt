@@ -55,9 +55,9 @@ loop-again c =
 add-faults-2 : tie.Need-add-faults-2 Inv-loop μ-loop Inv-loop2 μ-loop2
 add-faults-2 c =
     let loop = c .before .before .loop in
-    let misfit2 = c .misfit2 in
+    let expiry-misfit = c .expiry-misfit in
     let if1 = c .before .before .before .before .if1 in
-    omega (arith, loop .inv .few, loop .inv .place, misfit2 .ensures .1, if1 .left)
+    omega (arith, loop .inv .few, loop .inv .place, expiry-misfit .ensures .1, if1 .left)
 
 loop2-holds : tie.Need-loop2-holds Inv-loop μ-loop Inv-loop2 μ-loop2
 loop2-holds c =
@@ -67,10 +67,10 @@ loop2-holds c =
     let if1 = c .before .before .before .before .if1 in
     let if2 = c .before .before .before .if2 in
     let loop-test = c .before .loop-test in
-    let misfit2 = c .misfit2 in
+    let expiry-misfit = c .expiry-misfit in
     let full : length (args .t1 .leaps) ≡ 256 = simp length-map at (good .0 .1 .1 .0 .1 .0 .1) in
-    rest-none (args .t1) full _ (loop .i) (if1 .left) (if2 .left) (omega (arith, loop .inv .place, loop-test .left)) (omega (arith, loop .inv .few, misfit2 .ensures .1))
-    (gapped-all (args .t1) full (if1 .left) (loop .faults) (loop .last) (loop .i) (loop .inv) (loop-test .left) (misfit2 .result) (misfit2 .ensures .0))
+    rest-none (args .t1) full _ (loop .i) (if1 .left) (if2 .left) (omega (arith, loop .inv .place, loop-test .left)) (omega (arith, loop .inv .few, expiry-misfit .ensures .1))
+    (gapped-all (args .t1) full (if1 .left) (loop .faults) (loop .last) (loop .i) (loop .inv) (loop-test .left) (expiry-misfit .result) (expiry-misfit .ensures .0))
 
 loop2-again : tie.Need-loop2-again Inv-loop μ-loop Inv-loop2 μ-loop2
 loop2-again c =

@@ -10,26 +10,24 @@ use Rattle.show.proofs.dtai_from.Tie as tie
 
 returns : tie.Need-returns
 returns c =
-    let args = c .before .before .before .before .before .args in
-    let pre = c .before .before .before .before .before .pre in
-    let first-day = c .before .before .before .before .first-day in
+    let args = c .before .before .before .before .args in
+    let pre = c .before .before .before .before .pre in
     let dtai = c .before .before .before .dtai in
     let a = c .before .a in
-    let is = dtai-given (args .s) (pre .0) (args .month) (pre .1) (first-day .ensures) (dtai .ensures) in
+    let is = dtai-given (args .s) (pre .0) (args .day) (pre .1) (pre .2) (dtai .ensures) in
     rw (ap dtaiValue (sym (a .given .1) ∙ is)) (dtai-kept (args .s) (pre .0) _)
 
 returns-2 : tie.Need-returns-2
 returns-2 c =
-    let args = c .before .before .before .before .args in
-    let pre = c .before .before .before .before .pre in
-    let first-day = c .before .before .before .first-day in
+    let args = c .before .before .before .args in
+    let pre = c .before .before .before .pre in
     let dtai = c .before .before .dtai in
     let enum-told = c .enum-told in
-    let is = dtai-given (args .s) (pre .0) (args .month) (pre .1) (first-day .ensures) (dtai .ensures) in
+    let is = dtai-given (args .s) (pre .0) (args .day) (pre .1) (pre .2) (dtai .ensures) in
     let told = enum-told .given .1 in
     let never : _≡_ {A = ℕ} 0 1 = cc in
     absurd (omega arith)
 
 pub dtai-from-spec : {M : Type 1} → statement M
 dtai-from-spec =
-    tie.close (tie.spec (λ c κs. search needs) (λ c κs. search needs) (λ c. search needs) (λ c. search needs) returns returns-2)
+    tie.close (tie.spec (λ c κs. search needs) (λ c. search needs) (λ c. search needs) returns returns-2)

@@ -4,7 +4,7 @@ use native.Mathlib.Omega.{arith}
 use Prim.Native.Nat.{_-_}
 use lib.ListN.{length-map}
 use Rattle.format.proofs.Putting.{same-long}
-use Rattle.show.proofs.Going.{Going, begin, fewer, before-expiry, in-places, next-month, go-on, ended}
+use Rattle.show.proofs.Going.{Going, begin, fewer, before-expiry, in-places, next-start, start-of, go-on, ended}
 use Rattle.show.proofs.put_stretches.Statement.{statement}
 use Rattle.show.proofs.put_stretches.Tie as tie
 
@@ -20,41 +20,40 @@ loop-holds c =
     let good = c .before .good in
     begin _ _ _ _ pre (simp length-map at (good .1 .1 .1 .0 .1 .1 .0 .1 .0 .1))
 
-mul-month : tie.Need-mul-month Inv-loop μ-loop
-mul-month c =
+mul-first-day : tie.Need-mul-first-day Inv-loop μ-loop
+mul-first-day c =
     let loop = c .before .loop in
     let loop-test = c .loop-test in
     omega (arith, in-places (loop .inv) (loop-test .taken))
 
-element-copy-out-month : tie.Need-element-copy-out-month Inv-loop μ-loop
-element-copy-out-month c =
+element-copy-out-first-day : tie.Need-element-copy-out-first-day Inv-loop μ-loop
+element-copy-out-first-day c =
     let loop = c .before .loop in
     let loop-test = c .loop-test in
     in-places (loop .inv) (loop-test .taken)
 
 put-stretch-requires : tie.Need-put-stretch-requires Inv-loop μ-loop
 put-stretch-requires c κs =
-    let loop = c .before .before .loop in
-    let loop-test = c .before .loop-test in
-    (loop .inv .well, next-month (loop .inv) (loop-test .taken))
+    let g = c .before .before .before .loop .inv in
+    let h = c .before .before .loop-test .taken in
+    let e = start-of g h (c .before .first-day .ensures) in
+    (g .well, before-expiry g .0, omega (arith, e, next-start g h .0), omega (arith, e, next-start g h .1))
 
 loop-less : tie.Need-loop-less Inv-loop μ-loop
-loop-less c =
-    let loop-test = c .before .before .before .before .before .before .before .before .loop-test in
-    fewer (loop-test .taken)
+loop-less c = fewer (c .before .before .before .before .before .before .before .before .before .loop-test .taken)
 
 loop-again : tie.Need-loop-again Inv-loop μ-loop
 loop-again c =
-    let loop = c .before .before .before .before .before .before .before .before .before .loop in
-    let loop-test = c .before .before .before .before .before .before .before .before .loop-test in
+    let g = c .before .before .before .before .before .before .before .before .before .before .loop .inv in
+    let h = c .before .before .before .before .before .before .before .before .before .loop-test .taken in
     let put-stretch = c .before .before .before .before .before .before .put-stretch in
     let put-between = c .before .before .put-between in
-    go-on (loop .inv) (loop-test .taken) (put-stretch .ensures) (put-between .ensures)
+    go-on g h _ (start-of g h (c .before .before .before .before .before .before .before .before .first-day .ensures)) (put-stretch .ensures) (put-between .ensures)
 
 put-last-requires : tie.Need-put-last-requires Inv-loop μ-loop
 put-last-requires c κs =
     let loop = c .before .before .loop in
-    (loop .inv .well, before-expiry (loop .inv))
+    (loop .inv .well, before-expiry (loop .inv) .0, before-expiry (loop .inv) .1)
 
 same-length : tie.Need-same-length Inv-loop μ-loop
 same-length c =
@@ -77,8 +76,9 @@ put-stretches-spec =
     Inv-loop
     μ-loop
     loop-holds
-    mul-month
-    element-copy-out-month
+    mul-first-day
+    element-copy-out-first-day
+    (λ c κs. search needs)
     put-stretch-requires
     (λ c κs. search needs)
     (λ c. search needs)

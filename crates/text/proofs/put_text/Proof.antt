@@ -1,27 +1,29 @@
 -- `text::put_text` meets its contract. The loop's invariant: what is still to be stored makes the whole text. Assumes nothing.
-use mathlib.Core.Path.{_≡_, refl, sym, ap, _∙_}
+use mathlib.Core.Bool.{true}
+use mathlib.Core.Path.{_≡_, ap, _∙_}
 use Prim.Native.Nat.{_≤_, _-_}
 use native.Mathlib.Omega.{arith}
 use borrow.Author.Needs.{needs}
 use lib.ListN.{length, length-map}
-use lib.Seq.{length-sets}
+use lib.Seq.{sets, length-sets}
+use Rattle.schedule.specs.Schedule.{leavesGap, wellFormed}
 use Rattle.text.specs.Bytes.{endByte}
-use Rattle.text.specs.Write.{textOf, marked}
+use Rattle.text.specs.Write.{marked}
 use Rattle.text.proofs.Steps as steps
 use Rattle.text.proofs.Steps.{Storing}
 use Rattle.text.proofs.put_text.Statement.{statement}
 use Rattle.text.proofs.put_text.Tie as tie
 
 abbrev Inv-loop : tie.InvT-loop
-Inv-loop out₀ s count at₀ last₀ i₀ out at last i = (s .count ≤ 256) × Storing s out₀ out at i last
+Inv-loop end out₀ s count at₀ last₀ i₀ out at last i = (s .count ≤ 256) × Storing s out₀ out at i last
 
 abbrev μ-loop : tie.MeasureT-loop
-μ-loop out₀ s count at₀ last₀ i₀ out at last i = s .count - i
+μ-loop end out₀ s count at₀ last₀ i₀ out at last i = s .count - i
 
 sub-put-mark : tie.Need-sub-put-mark Inv-loop μ-loop
 sub-put-mark c =
     let s = c .before .before .before .before .before .before .args .t1 in
-    let w = c .before .before .before .before .before .before .pre .0 in
+    let w : (wellFormed s ≡ true) × (leavesGap s ≡ true) = (c .before .before .before .before .before .before .pre .0 .0, c .before .before .before .before .before .before .pre .0 .1) in
     let full : length (s .leaps) ≡ 256 = simp length-map at (c .before .before .before .before .before .before .good .0 .1 .1 .0 .1 .0 .1) in
     let at = c .before .before .before .before .loop in
     steps.gap-sure s w full (at .at) (at .i) (at .last) (at .inv .1 .standing) (c .before .before .before .loop-test .taken) _ (c .before .wide .ensures) .0
@@ -29,7 +31,7 @@ sub-put-mark c =
 put-mark-requires : tie.Need-put-mark-requires Inv-loop μ-loop
 put-mark-requires c κs =
     let s = c .before .before .before .before .before .before .before .args .t1 in
-    let w = c .before .before .before .before .before .before .before .pre .0 in
+    let w : (wellFormed s ≡ true) × (leavesGap s ≡ true) = (c .before .before .before .before .before .before .before .pre .0 .0, c .before .before .before .before .before .before .before .pre .0 .1) in
     let full : length (s .leaps) ≡ 256 = simp length-map at (c .before .before .before .before .before .before .before .good .0 .1 .1 .0 .1 .0 .1) in
     let at = c .before .before .before .before .before .loop in
     let st = at .inv .1 .standing in
@@ -42,7 +44,7 @@ put-mark-requires c κs =
 loop-again : tie.Need-loop-again Inv-loop μ-loop
 loop-again c =
     let s = c .before .before .before .before .before .before .before .before .before .before .args .t1 in
-    let w = c .before .before .before .before .before .before .before .before .before .before .pre .0 in
+    let w : (wellFormed s ≡ true) × (leavesGap s ≡ true) = (c .before .before .before .before .before .before .before .before .before .before .pre .0 .0, c .before .before .before .before .before .before .before .before .before .before .pre .0 .1) in
     let full : length (s .leaps) ≡ 256 = simp length-map at (c .before .before .before .before .before .before .before .before .before .before .good .0 .1 .1 .0 .1 .0 .1) in
     let at = c .before .before .before .before .before .before .before .before .loop in
     let put = c .before .before .put-mark in
@@ -51,21 +53,22 @@ loop-again c =
 sub-put-mark-2 : tie.Need-sub-put-mark-2 Inv-loop μ-loop
 sub-put-mark-2 c =
     let s = c .before .before .before .before .args .t1 in
-    let w = c .before .before .before .before .pre .0 in
+    let w : (wellFormed s ≡ true) × (leavesGap s ≡ true) = (c .before .before .before .before .pre .0 .0, c .before .before .before .before .pre .0 .1) in
     let full : length (s .leaps) ≡ 256 = simp length-map at (c .before .before .before .before .good .0 .1 .1 .0 .1 .0 .1) in
     let at = c .before .before .loop in
-    steps.end-sure s w full (at .at) (at .i) (at .last) (at .inv .1 .standing) (c .before .loop-test .left) .0
+    omega (arith, c .before .before .before .before .pre .0 .2, steps.end-sure s w full (at .at) (at .i) (at .last) (at .inv .1 .standing) (c .before .loop-test .left) .0)
 
 put-mark-requires-2 : tie.Need-put-mark-requires-2 Inv-loop μ-loop
 put-mark-requires-2 c κs =
     let s = c .before .before .before .before .args .t1 in
-    let w = c .before .before .before .before .pre .0 in
+    let w : (wellFormed s ≡ true) × (leavesGap s ≡ true) = (c .before .before .before .before .pre .0 .0, c .before .before .before .before .pre .0 .1) in
     let full : length (s .leaps) ≡ 256 = simp length-map at (c .before .before .before .before .good .0 .1 .1 .0 .1 .0 .1) in
     let at = c .before .before .loop in
     let st = at .inv .1 .standing in
-    let h = c .before .loop-test .left in (
-      steps.end-sure s w full (at .at) (at .i) (at .last) st h .1,
-      omega (arith, steps.end-length s w full (at .at) (at .i) (at .last) st h, at .inv .1 .same, c .before .before .before .before .pre .1),
+    let h = c .before .loop-test .left in
+    let same = ap (λ m. m - at .last) (c .before .before .before .before .pre .0 .2) in (
+      omega (arith, same, steps.end-sure s w full (at .at) (at .i) (at .last) st h .1),
+      omega (arith, ap (λ k. length (marked k endByte)) same, steps.end-length s w full (at .at) (at .i) (at .last) st h, at .inv .1 .same, c .before .before .before .before .pre .1),
     )
 
 same-length : tie.Need-same-length Inv-loop μ-loop
@@ -77,10 +80,11 @@ same-length c =
 returns : tie.Need-returns Inv-loop μ-loop
 returns c =
     let s = c .before .before .before .before .before .before .before .args .t1 in
-    let w = c .before .before .before .before .before .before .before .pre .0 in
+    let w : (wellFormed s ≡ true) × (leavesGap s ≡ true) = (c .before .before .before .before .before .before .before .pre .0 .0, c .before .before .before .before .before .before .before .pre .0 .1) in
     let full : length (s .leaps) ≡ 256 = simp length-map at (c .before .before .before .before .before .before .before .good .0 .1 .1 .0 .1 .0 .1) in
     let at = c .before .before .before .before .before .loop in
-    steps.end-storing s w full _ (at .out) (at .at) (at .i) (at .last) (at .inv .1) (c .before .before .before .before .loop-test .left) _ (c .before .before .put-mark2 .ensures .1)
+    steps.end-storing s w full _ (at .out) (at .at) (at .i) (at .last) (at .inv .1) (c .before .before .before .before .loop-test .left) _
+    (c .before .before .put-mark2 .ensures .1 ∙ ap (λ m. sets (at .out) (at .at) (marked (m - at .last) endByte)) (c .before .before .before .before .before .before .before .pre .0 .2))
 
 pub put-text-spec : {M : Type 1} → statement M
 put-text-spec =
@@ -88,7 +92,7 @@ put-text-spec =
     (tie.spec
     Inv-loop
     μ-loop
-    (λ c. (steps.room (c .before .args .t1) (c .before .pre .0), steps.start-storing (c .before .args .t1) (c .before .pre .0) (c .before .args .out .now)))
+    (λ c. (steps.room (c .before .args .t1) (c .before .pre .0 .0, c .before .pre .0 .1), steps.start-storing (c .before .args .t1) (c .before .pre .0 .0, c .before .pre .0 .1) (c .before .args .out .now)))
     (λ c. search needs)
     (λ c. search needs)
     (λ c κs. search needs)

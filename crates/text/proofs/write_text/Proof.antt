@@ -1,4 +1,4 @@
--- `text::write_text` meets its contract: one of the three answers. Assumes nothing.
+-- `text::write_text` meets its contract: one of the four answers. Assumes nothing.
 use borrow.Author.Needs.{needs}
 use native.Mathlib.Omega.{arith}
 use mathlib.Core.Path.{sym, _∙_}
@@ -12,17 +12,21 @@ write-text-spec =
     (tie.spec
     -- is-well-formed-requires
     (λ c κs. search needs)
+    -- leaves-gap-requires
+    (λ c κs. search needs)
+    -- expiry-month-requires
+    (λ c κs. search needs)
     -- text-len-requires
-    (λ c κs. sym (c .before .is-well-formed .ensures) ∙ c .if1 .taken)
+    (λ c κs. ((sym (c .before .before .before .before .is-well-formed .ensures) ∙ c .before .before .before .if1 .taken), (sym (c .before .before .leaves-gap .ensures) ∙ c .before .if2 .taken), c .expiry-month .ensures))
     -- put-text-requires
-    (λ c κs. (sym (c .before .before .before .before .is-well-formed .ensures) ∙ c .before .before .before .if1 .taken, omega (arith, c .before .before .text-len .ensures)))
+    (λ c κs. (((sym (c .before .before .before .before .before .before .before .is-well-formed .ensures) ∙ c .before .before .before .before .before .before .if1 .taken), (sym (c .before .before .before .before .before .leaves-gap .ensures) ∙ c .before .before .before .before .if2 .taken), c .before .before .before .expiry-month .ensures), omega (arith, c .before .before .text-len .ensures)))
     -- same-length
     (λ c. search needs)
     -- returns
-    (λ c. let put = c .before .before in
-    let test = put .before .before in
-    answers.taken _ _ _ (sym (test .before .before .before .is-well-formed .ensures) ∙ test .before .before .if1 .taken) _ (test .before .text-len .ensures) (test .if2 .taken) _ (put .put-text .ensures))
+    (λ c. answers.taken _ _ _ (sym (c .before .before .before .before .before .before .before .before .before .before .is-well-formed .ensures) ∙ c .before .before .before .before .before .before .before .before .before .if1 .taken) (sym (c .before .before .before .before .before .before .before .before .leaves-gap .ensures) ∙ c .before .before .before .before .before .before .before .if2 .taken) _ (c .before .before .before .before .before .text-len .ensures) (c .before .before .before .before .if3 .taken) _ (c .before .before .put-text .ensures))
     -- returns-2
-    (λ c. answers.short _ _ _ (sym (c .before .before .before .is-well-formed .ensures) ∙ c .before .before .if1 .taken) _ (c .before .text-len .ensures) (c .if2 .left))
+    (λ c. answers.short _ _ _ (sym (c .before .before .before .before .before .before .is-well-formed .ensures) ∙ c .before .before .before .before .before .if1 .taken) (sym (c .before .before .before .before .leaves-gap .ensures) ∙ c .before .before .before .if2 .taken) _ (c .before .text-len .ensures) (c .if3 .left))
     -- returns-3
+    (λ c. answers.no-gap _ _ _ (sym (c .before .before .before .is-well-formed .ensures) ∙ c .before .before .if1 .taken) (sym (c .before .leaves-gap .ensures) ∙ c .if2 .left))
+    -- returns-4
     (λ c. answers.wrong _ _ _ (sym (c .before .is-well-formed .ensures) ∙ c .if1 .left)))

@@ -1,9 +1,8 @@
 -- `answers::lists::put_list_nybbles` meets its contract: the list is refused, or it is put as nybbles. Assumes nothing.
 use borrow.Author.Needs.{needs}
 use native.Mathlib.Omega.{arith}
-use mathlib.Core.Path.{_≡_}
 use Rattle.format.proofs.Putting.{few}
-use Rattle.text.proofs.Sound.{accepted-well-formed}
+use Rattle.text.proofs.Sound.{accepted-well-formed, accepted-leaves-gap}
 use Rattle.answers.specs.Lists.{listOf}
 use Rattle.format.specs.Refusal.{refusalAt}
 use Rattle.schedule.proofs.ByReading.{read-refused, read-taken}
@@ -23,7 +22,8 @@ put-nybbles-requires c κs =
     let read-list = c .before .before .before .read-list in
     let args = c .before .before .before .before .before .before .args in
     let if1 = c .before .before .if1 in
-    rw (read-list .ensures) (accepted-well-formed (listOf (args .list .now)) (rw (read-list .ensures) at (if1 .left)))
+    let taken = rw (read-list .ensures) at (if1 .left) in
+    rw (read-list .ensures) (accepted-well-formed (listOf (args .list .now)) taken, accepted-leaves-gap (listOf (args .list .now)) taken)
 
 returns-2 : tie.Need-returns-2
 returns-2 c =

@@ -24,7 +24,7 @@ array-share-prefix-bytes c =
     let pre = c .before .before .before .before .before .pre in
     let write-nybbles = c .before .before .write-nybbles in
     let s = args .s in
-    inside s (nybblesOf s) lent pre (at-most s pre) (write-nybbles .ensures .0) (write-nybbles .ensures .1)
+    inside s (nybblesOf s) lent (pre .0) (pre .1) (at-most s (pre .0) (pre .1)) (write-nybbles .ensures .0) (write-nybbles .ensures .1)
 
 slice-aggregate-put-hex : tie.Need-slice-aggregate-put-hex
 slice-aggregate-put-hex c =
@@ -32,7 +32,7 @@ slice-aggregate-put-hex c =
     let pre = c .before .before .before .before .before .before .pre in
     let write-nybbles = c .before .before .before .write-nybbles in
     let s = args .s in
-    all-held s (nybblesOf s) lent pre (at-most s pre) (write-nybbles .ensures .0) (write-nybbles .ensures .1)
+    all-held s (nybblesOf s) lent (pre .0) (pre .1) (at-most s (pre .0) (pre .1)) (write-nybbles .ensures .0) (write-nybbles .ensures .1)
 
 returns : tie.Need-returns
 returns c =
@@ -41,8 +41,8 @@ returns c =
     let write-nybbles = c .before .before .before .before .before .before .write-nybbles in
     let put-hex = c .before .before .put-hex in
     let s = args .s in
-    let room = at-most s pre in
-    let e = holds s (nybblesOf s) lent pre room (write-nybbles .ensures .0) (write-nybbles .ensures .1) in
+    let room = at-most s (pre .0) (pre .1) in
+    let e = holds s (nybblesOf s) lent (pre .0) (pre .1) room (write-nybbles .ensures .0) (write-nybbles .ensures .1) in
     text-put (put-hex .ensures) (ap hex (sym e)) (rw e (omega (arith, hex-length (nybblesOf s))))
 
 pub put-nybbles-spec : {M : Type 1} → statement M

@@ -1,5 +1,4 @@
 -- `clock::days::day_by` meets its contract. Assumes nothing.
-use mathlib.Core.Path.{sym}
 use borrow.Author.Needs.{needs}
 use Rattle.clock.proofs.Places.{day-surveyed}
 use Rattle.clock.proofs.days.day_by.Statement.{statement}

@@ -12,6 +12,7 @@ use Rattle.clock.specs.Answers.{dtaiAnswer}
 use Rattle.clock.proofs.Tai.{tally-few}
 use Rattle.clock.proofs.Signed.{minus-kept}
 use Rattle.clock.proofs.Checks.{on-date, date-then, all-passed, then-passed, then-refused}
+use Rattle.clock.proofs.Places.{list-for}
 use Rattle.clock.proofs.questions.dtai_on.Statement.{statement}
 use Rattle.clock.proofs.questions.dtai_on.Tie as tie
 
@@ -20,7 +21,7 @@ returns c s f =
     let args = c .before .before .args in
     let date-refusal = c .before .date-refusal in
     let if1 = c .if1 in
-    sym (ap dtaiAnswer (then-refused _ (date-then s (args .day) (dtai s (args .day))) (date-refusal .ensures s f) (if1 .taken)))
+    sym (ap dtaiAnswer (then-refused _ (date-then s (args .day) (dtai s (args .day))) (date-refusal .ensures s (list-for f)) (if1 .taken)))
 
 returns-2 : tie.Need-returns-2
 returns-2 c s f =
@@ -29,7 +30,7 @@ returns-2 c s f =
     let if1 = c .before .if1 in
     let dtai-by = c .dtai-by in
     let day = args .day in
-    let passed = all-passed _ (date-refusal .ensures s f) (if1 .left) in
+    let passed = all-passed _ (date-refusal .ensures s (list-for f)) (if1 .left) in
     let on = on-date s day tt tt passed in
     let is = f .is (on .well) (on .from) (on .through) in
     let value = dtai-by .ensures ∙ ap₂ (λ u d. subℕ (firstDtai + u) d) (ap (λ k. k .up) is) (ap (λ k. k .down) is) in

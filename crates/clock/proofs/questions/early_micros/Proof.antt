@@ -1,5 +1,6 @@
 -- `clock::questions::early_micros` meets its contract. Assumes nothing.
 use mathlib.Core.Path.{sym, ap, _∙_}
+use native.Mathlib.Omega.{arith}
 use borrow.Author.Needs.{needs}
 use Rattle.clock.specs.declared.MicrosAnswer.the-variants.{Given}
 use Rattle.clock.specs.Days.{ending}
@@ -8,26 +9,27 @@ use Rattle.clock.specs.Known.{nanosCutoff}
 use Rattle.clock.specs.Question.{given}
 use Rattle.clock.specs.Answers.{microsAnswer}
 use Rattle.clock.proofs.Back.{back-plain}
-use Rattle.clock.proofs.Checks.{instant-then, all-passed, then-passed, then-refused}
+use Rattle.clock.proofs.Checks.{early-as-date, instant-then, all-passed, then-passed, then-refused}
 use Rattle.clock.proofs.questions.early_micros.Statement.{statement}
 use Rattle.clock.proofs.questions.early_micros.Tie as tie
 
 returns : tie.Need-returns
 returns c s f =
     let args = c .before .before .args in
-    let instant-refusal = c .before .instant-refusal in
+    let date-refusal = c .before .date-refusal in
     let if1 = c .if1 in
+    let pre = c .before .before .pre in
     let a = args in
-    sym (ap microsAnswer (then-refused _ (instant-then s nanosPerDay nanosCutoff (a .day) (a .nanos) (given (utcOf (ending s (a .day)) (a .nanos)))) (instant-refusal .ensures s f) (if1 .taken)))
+    sym (ap microsAnswer (then-refused _ (instant-then s nanosPerDay nanosCutoff (a .day) (a .nanos) (given (utcOf (ending s (a .day)) (a .nanos)))) (early-as-date s nanosPerDay nanosCutoff (a .day) (a .nanos) (omega (arith, pre)) pre ∙ date-refusal .ensures s f) (if1 .taken)))
 
 returns-2 : tie.Need-returns-2
 returns-2 c s f =
     let args = c .before .before .args in
-    let instant-refusal = c .before .instant-refusal in
+    let date-refusal = c .before .date-refusal in
     let if1 = c .if1 in
     let pre = c .before .before .pre in
     let a = args in
-    let passed = all-passed _ (instant-refusal .ensures s f) (if1 .left) in
+    let passed = all-passed _ (early-as-date s nanosPerDay nanosCutoff (a .day) (a .nanos) (omega (arith, pre)) pre ∙ date-refusal .ensures s f) (if1 .left) in
     ap (λ t. Given (record { 0 = t })) (back-plain (ending s (a .day)) (a .nanos) pre)
     ∙ sym (ap microsAnswer (then-passed (instant-then s nanosPerDay nanosCutoff (a .day) (a .nanos) (given (utcOf (ending s (a .day)) (a .nanos)))) passed))
 

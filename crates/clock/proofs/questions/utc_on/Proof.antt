@@ -1,25 +1,26 @@
 -- `clock::questions::utc_on` meets its contract. The day near the TAI has begun by then, and the TAI lies on it or on the next. Assumes nothing.
 use mathlib.Core.Bool.{true}
-use mathlib.Core.Logic.{⊎-elim}
 use mathlib.Core.Path.{_≡_, sym, ap, _∙_}
 use Prim.Native.Nat.{ℕ, _+_, _-_, _≤_, _<_}
+use native.Mathlib.Decide.{decLt}
 use native.Mathlib.Omega.{arith}
 use borrow.Author.Needs.{needs}
-use borrow.Author.Tests.{lt-leb}
-use Rattle.refusals.specs.Refusals.{before1972, notWellFormed}
+use borrow.Author.Tests.{le-leb, lt-leb}
+use Rattle.refusals.specs.Refusals.{before1972, notKnown, notWellFormed}
 use Rattle.calendar.specs.Calendar.{firstDay}
 use Rattle.schedule.specs.declared.Schedule.{Schedule}
 use Rattle.schedule.specs.Schedule.{wellFormed}
 use Rattle.clock.specs.declared.days.Day.{Day}
 use Rattle.clock.specs.Days.{ending, dayLength, tai}
-use Rattle.clock.specs.Known.{lastDay}
+use Rattle.clock.specs.Known.{lastDay, taiCutoff}
 use Rattle.clock.specs.declared.UtcAnswer.{UtcAnswer}
+use Rattle.clock.specs.declared.UtcAnswer.the-variants.{Given}
 use Rattle.clock.specs.Question.{firstTai, taiToUtc}
 use Rattle.clock.specs.Answers.{utcAnswer}
 use Rattle.clock.specs.Inner.{dayOn, DayFor, nearDay, onDay}
 use Rattle.clock.proofs.Tai.{length-least, deleted-few, last-inside, tai-next}
-use Rattle.clock.proofs.Checks.{pass, stop, passed, failed}
-use Rattle.clock.proofs.Instant.{utc-answer, near-from, near-begun, near-stays, near-steps}
+use Rattle.clock.proofs.Checks.{known-on-date, pass, stop, passed, failed}
+use Rattle.clock.proofs.Instant.{utc-answer, near-from, near-begun, near-stays, near-steps, near-inside, utc-past}
 use Rattle.clock.proofs.questions.utc_on.Statement.{statement}
 use Rattle.clock.proofs.questions.utc_on.Tie as tie
 
@@ -76,48 +77,75 @@ sub-t c =
 
 -- the instant lies on the day near the TAI
 stays : (s : Schedule) (near x : ℕ) (k : Day) → Near s near x k → firstTai ≤ x → (start : ℕ) → start ≡ tai s near 0
-    → (near < lastDay s → x < tai s near 0 + dayLength (ending s near)) → {r : UtcAnswer} → r ≡ utcAnswer (onDay near (x - start) (k .last)) → r ≡ utcAnswer (taiToUtc s x)
+    → x < tai s near 0 + dayLength (ending s near) → {r : UtcAnswer} → r ≡ utcAnswer (onDay near (x - start) (k .last)) → r ≡ utcAnswer (taiToUtc s x)
 stays s near x k h enough start e within told =
     told
-    ∙ ap utcAnswer (ap (λ last. onDay near (x - start) last) (h .is-last) ∙ utc-answer s (h .well) x enough near start (near-stays s (h .well) x enough near (h .is-near) within) e)
+    ∙ ap utcAnswer (ap (λ last. onDay near (x - start) last) (h .is-last) ∙ utc-answer s (h .well) x enough near start (near-stays s (h .well) x enough near (h .is-near) (λ l. within)) e within)
+
+-- or on the next, or past the last
+steps : (s : Schedule) (near x : ℕ) (k : Day) → Near s near x k → firstTai ≤ x → (t : ℕ) → t ≡ x - (tai s near 0 + dayLength (ending s near))
+    → tai s near 0 + dayLength (ending s near) ≤ x → {r : UtcAnswer} → r ≡ utcAnswer (onDay (near + 1) t (k .last)) → r ≡ utcAnswer (taiToUtc s x)
+steps s near x k h enough t e past told =
+    let next = tai-next s (h .well) near (h .from) in
+    let is : onDay (near + 1) t (lastDay s) ≡ taiToUtc s x =
+    elim (decLt near (lastDay s)) [
+      | yes l ↦
+          ap (λ u. onDay (near + 1) u (lastDay s)) e
+          ∙ utc-answer s (h .well) x enough (near + 1) (tai s near 0 + dayLength (ending s near)) (near-steps s (h .well) x enough near (h .is-near) l past) (sym next)
+          (near-inside s (h .well) x enough near (h .is-near) l)
+      | no l ↦
+          let z : near ≡ lastDay s = omega (arith, h .is-near) in
+          ap (λ d. onDay (d + 1) t (lastDay s)) z ∙ utc-past s (h .well) x enough t (omega (arith, ap (λ d. tai s d 0 + dayLength (ending s d)) z))
+    ] in
+    told ∙ ap utcAnswer (ap (λ last. onDay (near + 1) t last) (h .is-last) ∙ is)
+
+-- and is known, if it lies in the first 86,399 s
+early : (s : Schedule) (near x : ℕ) (k : Day) → Near s near x k → (t : ℕ) → t < taiCutoff → Given near (record { 0 = t }) ≡ utcAnswer (onDay near t (k .last))
+early s near x k h t g =
+    let e = h .is-last in
+    sym (ap utcAnswer (pass notKnown (known-on-date (k .last) taiCutoff near t g ∙ le-leb near (k .last) (omega (arith, h .is-near)))))
 
 returns-3 : tie.Need-returns-3
 returns-3 c s f =
-    let args = c .before .before .before .before .before .before .args in
-    let if1 = c .before .before .before .before .if1 in
-    let if2 = c .before .before .before .if2 in
-    let pre = c .before .before .before .before .before .before .pre in
-    let start-of = c .before .before .start-of in
-    let if3 = c .before .if3 in
+    let args = c .before .before .before .before .before .args in
+    let if1 = c .before .before .before .if1 in
+    let if2 = c .before .before .if2 in
+    let pre = c .before .before .before .before .before .pre in
+    let start-of = c .before .start-of in
+    let if3 = c .if3 in
+    let a = args in
+    let h = near-day s (a .near) (a .tai) (a .k) f (passed (f .well) (if1 .left)) (if2 .left) (pre .1) in
+    let start = start-of .ensures s (h .is-day) in
+    stays s (a .near) (a .tai) (a .k) h (if2 .left) (start-of .result) start (omega (arith, if3 .taken, length-least (ending s (a .near)), start))
+    (early s (a .near) (a .tai) (a .k) h (a .tai - start-of .result) (if3 .taken))
+
+add-on-day : tie.Need-add-on-day
+add-on-day c =
+    let args = c .before .before .before .before .before .before .before .args in
+    let pre = c .before .before .before .before .before .before .before .pre in
+    let if1 = c .before .before .before .before .before .if1 in
+    let if2 = c .before .before .before .before .if2 in
+    let a = args in
+    let s = pre .0 .by in
+    let f = pre .0 .day-for in
+    let h = near-day s (a .near) (a .tai) (a .k) f (passed (f .well) (if1 .left)) (if2 .left) (pre .1) in
+    omega (arith, h .is-near, last-inside s (h .well))
+
+returns-4 : tie.Need-returns-4
+returns-4 c s f =
+    let args = c .before .before .before .before .before .before .before .before .args in
+    let if1 = c .before .before .before .before .before .before .if1 in
+    let if2 = c .before .before .before .before .before .if2 in
+    let pre = c .before .before .before .before .before .before .before .before .pre in
+    let start-of = c .before .before .before .before .start-of in
+    let day-length = c .before .before .day-length in
+    let if4 = c .before .if4 in
     let on-day = c .on-day in
     let a = args in
     let h = near-day s (a .near) (a .tai) (a .k) f (passed (f .well) (if1 .left)) (if2 .left) (pre .1) in
     let start = start-of .ensures s (h .is-day) in
-    let within : a .near < lastDay s → a .tai < tai s (a .near) 0 + dayLength (ending s (a .near)) =
-    λ l. omega (arith, if3 .taken, length-least (ending s (a .near)), start) in
-    stays s (a .near) (a .tai) (a .k) h (if2 .left) (start-of .result) start within (on-day .ensures)
-
-returns-4 : tie.Need-returns-4
-returns-4 c s f =
-    let args = c .before .before .before .before .before .before .before .before .before .args in
-    let if1 = c .before .before .before .before .before .before .before .if1 in
-    let if2 = c .before .before .before .before .before .before .if2 in
-    let pre = c .before .before .before .before .before .before .before .before .before .pre in
-    let start-of = c .before .before .before .before .before .start-of in
-    let day-length = c .before .before .before .day-length in
-    let if4 = c .before .before .if4 in
-    let if5 = c .before .if5 in
-    let on-day2 = c .on-day2 in
-    let a = args in
-    let h = near-day s (a .near) (a .tai) (a .k) f (passed (f .well) (if1 .left)) (if2 .left) (pre .1) in
-    let start = start-of .ensures s (h .is-day) in
     let own = day-length .ensures ∙ ap (λ k. dayLength (k .ending)) (h .is-day) in
-    let next = tai-next s (h .well) (a .near) (h .from) in
-    let end = start-of .result + day-length .result in
-    let rest : a .tai - start-of .result - day-length .result ≡ a .tai - end = omega arith in
-    let is = near-steps s (h .well) (a .tai) (if2 .left) (a .near) (h .is-near) (omega (arith, h .is-last, if4 .taken)) (omega (arith, if5 .taken)) in
-    on-day2 .ensures
-    ∙ ap utcAnswer (ap (λ t. onDay (a .near + 1) t (a .k .last)) rest ∙ ap (λ last. onDay (a .near + 1) (a .tai - end) last) (h .is-last) ∙ utc-answer s (h .well) (a .tai) (if2 .left) (a .near + 1) end is (omega arith))
+    steps s (a .near) (a .tai) (a .k) h (if2 .left) (a .tai - start-of .result - day-length .result) (omega arith) (omega (arith, if4 .taken)) (on-day .ensures)
 
 returns-5 : tie.Need-returns-5
 returns-5 c s f =
@@ -128,14 +156,12 @@ returns-5 c s f =
     let start-of = c .before .before .before .before .start-of in
     let day-length = c .before .before .day-length in
     let if4 = c .before .if4 in
-    let on-day3 = c .on-day3 in
+    let on-day2 = c .on-day2 in
     let a = args in
     let h = near-day s (a .near) (a .tai) (a .k) f (passed (f .well) (if1 .left)) (if2 .left) (pre .1) in
     let start = start-of .ensures s (h .is-day) in
     let own = day-length .ensures ∙ ap (λ k. dayLength (k .ending)) (h .is-day) in
-    let within : a .near < lastDay s → a .tai < tai s (a .near) 0 + dayLength (ending s (a .near)) =
-    λ l. ⊎-elim (λ q. omega (arith, q .1 .left)) (λ q. absurd (omega (arith, h .is-last, q .left))) (if4 .came) in
-    stays s (a .near) (a .tai) (a .k) h (if2 .left) (start-of .result) start within (on-day3 .ensures)
+    stays s (a .near) (a .tai) (a .k) h (if2 .left) (start-of .result) start (omega (arith, if4 .left)) (on-day2 .ensures)
 
 pub utc-on-spec : {M : Type 1} → statement M
 utc-on-spec =
@@ -145,10 +171,9 @@ utc-on-spec =
     returns-2
     start-of-requires
     sub-t
-    (λ c κs. search needs)
     returns-3
     (λ c κs. search needs)
-    (λ c. search needs)
+    add-on-day
     (λ c κs. search needs)
     returns-4
     (λ c κs. search needs)

@@ -1,6 +1,10 @@
 -- `clock::words::uts_to_utc` meets its contract. Assumes nothing.
+use mathlib.Core.Path.{sym, ap, _∙_}
 use borrow.Author.Needs.{needs}
+use Rattle.refusals.specs.Refusals.{notWellFormed}
 use Rattle.schedule.specs.WordLayout.{meant}
+use Rattle.clock.specs.Answers.{microsAnswer}
+use Rattle.clock.proofs.Checks.{stop}
 use Rattle.clock.proofs.LaidOut.{last-meant}
 use Rattle.clock.proofs.words.uts_to_utc.Statement.{statement}
 use Rattle.clock.proofs.words.uts_to_utc.Tie as tie
@@ -8,12 +12,20 @@ use Rattle.clock.proofs.words.uts_to_utc.Tie as tie
 -- early in the day
 returns : tie.Need-returns
 returns c =
-    let args = c .before .before .before .before .before .before .args in
+    let args = c .before .before .before .before .before .before .before .args in
+    let is-list = c .before .before .is-list in
+    let if2 = c .before .if2 in
     let early-micros = c .early-micros in
-    let is-list = c .before .is-list in
-    let day-before = c .before .before .before .before .day-before in
+    let day-before = c .before .before .before .before .before .day-before in
     let words = args .words .now in
-    early-micros .ensures (meant words) (record { is-well = is-list .ensures; is-last = λ w. last-meant words w (day-before .result) (day-before .ensures .0) })
+    let well = sym (sym (is-list .ensures) ∙ if2 .taken) in
+    early-micros .ensures (meant words) (record { is-well = well; is-last = λ w. last-meant words w (day-before .result) (day-before .ensures .0) })
+
+returns-2 : tie.Need-returns-2
+returns-2 c =
+    let is-list = c .before .is-list in
+    let if2 = c .if2 in
+    sym (ap microsAnswer (stop _ notWellFormed (sym (is-list .ensures) ∙ if2 .left)))
 
 micros-on-requires : tie.Need-micros-on-requires
 micros-on-requires c κs =
@@ -23,8 +35,8 @@ micros-on-requires c κs =
     let words = args .words .now in
     record { by = meant words; day-for = day-in .ensures (λ w. last-meant words w (day-before .result) (day-before .ensures .0)) }
 
-returns-2 : tie.Need-returns-2
-returns-2 c =
+returns-3 : tie.Need-returns-3
+returns-3 c =
     let args = c .before .before .before .before .before .before .args in
     let micros-on = c .micros-on in
     let day-in = c .before .day-in in
@@ -41,6 +53,7 @@ uts-to-utc-spec =
     (λ c κs. search needs)
     (λ c κs. search needs)
     returns
+    returns-2
     (λ c κs. search needs)
     micros-on-requires
-    returns-2)
+    returns-3)

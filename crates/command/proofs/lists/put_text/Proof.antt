@@ -1,7 +1,6 @@
 -- `command::lists::put_text` meets its contract: 1,028 bytes are room enough for the text. Assumes nothing.
 use borrow.Author.Needs.{needs}
-use native.Mathlib.Omega.{arith}
-use mathlib.Core.Path.{sym, ap}
+use mathlib.Core.Path.{sym}
 use mathlib.Core.List.{List}
 use Prim.Native.Nat.{ℕ}
 use lib.ListN.{replicate}
@@ -21,14 +20,14 @@ array-share-prefix-bytes c =
     let args = c .before .before .before .before .before .args in
     let pre = c .before .before .before .before .before .pre in
     let write-text = c .before .before .write-text in
-    let s = args .s in inside s (textOf s) lent pre (at-most s pre) (write-text .ensures .0) (write-text .ensures .1)
+    let s = args .s in inside s (textOf s) lent (pre .0) (pre .1) (at-most s (pre .0)) (write-text .ensures .0) (write-text .ensures .1)
 
 slice-aggregate-put-all : tie.Need-slice-aggregate-put-all
 slice-aggregate-put-all c =
     let args = c .before .before .before .before .before .before .args in
     let pre = c .before .before .before .before .before .before .pre in
     let write-text = c .before .before .before .write-text in
-    let s = args .s in all-held s (textOf s) lent pre (at-most s pre) (write-text .ensures .0) (write-text .ensures .1)
+    let s = args .s in all-held s (textOf s) lent (pre .0) (pre .1) (at-most s (pre .0)) (write-text .ensures .0) (write-text .ensures .1)
 
 returns : tie.Need-returns
 returns c =
@@ -36,7 +35,7 @@ returns c =
     let pre = c .before .before .before .before .before .before .before .before .before .pre in
     let write-text = c .before .before .before .before .before .before .write-text in
     let put-all = c .before .before .put-all in
-    let s = args .s in let e = holds s (textOf s) lent pre (at-most s pre) (write-text .ensures .0) (write-text .ensures .1) in text-put (put-all .ensures) (sym e) (rw e (at-most s pre))
+    let s = args .s in let e = holds s (textOf s) lent (pre .0) (pre .1) (at-most s (pre .0)) (write-text .ensures .0) (write-text .ensures .1) in text-put (put-all .ensures) (sym e) (rw e (at-most s (pre .0)))
 
 pub put-text-spec : {M : Type 1} → statement M
 put-text-spec =

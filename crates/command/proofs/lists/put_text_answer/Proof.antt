@@ -4,7 +4,7 @@ use borrow.Author.Tests.{not-true, not-false}
 use native.Mathlib.Omega.{arith}
 use Rattle.format.proofs.Putting.{few}
 use Rattle.format.specs.Hex.{unhex}
-use Rattle.nybbles.proofs.Sound.{accepted-well-formed}
+use Rattle.nybbles.proofs.Sound.{accepted-well-formed, accepted-leaves-gap}
 use Rattle.command.specs.Answer.{textAnswer}
 use Rattle.format.specs.Refusal.{refusalAt}
 use Rattle.schedule.proofs.ByReading.{read-refused, read-taken}
@@ -34,7 +34,8 @@ put-text-requires c κs =
     let read-hex = c .before .before .before .read-hex in
     let args = c .before .before .before .before .before .before .before .before .args in
     let if2 = c .before .before .if2 in
-    rw (read-hex .ensures) (accepted-well-formed (unhex (args .field .now)) (rw (read-hex .ensures) at (if2 .left)))
+    let taken = rw (read-hex .ensures) at (if2 .left) in
+    rw (read-hex .ensures) (accepted-well-formed (unhex (args .field .now)) taken, accepted-leaves-gap (unhex (args .field .now)) taken)
 
 returns-3 : tie.Need-returns-3
 unfolding textAnswer

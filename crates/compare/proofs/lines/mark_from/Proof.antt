@@ -19,7 +19,7 @@ mul-l c =
     let good = c .before .before .before .good in
     let pre = c .before .before .before .pre in
     let if2 = c .if2 in
-    omega (arith, in-places (args .t1) (simp length-map at (good .0 .1 .1 .0 .1 .0 .1)) pre _ (if2 .taken))
+    omega (arith, in-places (args .t1) (simp length-map at (good .0 .1 .1 .0 .1 .0 .1)) (pre .0) _ (if2 .taken))
 
 element-copy-out-l : tie.Need-element-copy-out-l
 element-copy-out-l c =
@@ -27,7 +27,7 @@ element-copy-out-l c =
     let good = c .before .before .before .good in
     let pre = c .before .before .before .pre in
     let if2 = c .if2 in
-    in-places (args .t1) (simp length-map at (good .0 .1 .1 .0 .1 .0 .1)) pre _ (if2 .taken)
+    in-places (args .t1) (simp length-map at (good .0 .1 .1 .0 .1 .0 .1)) (pre .0) _ (if2 .taken)
 
 returns-2 : tie.Need-returns-2
 returns-2 c =
@@ -38,7 +38,7 @@ returns-2 c =
     let good = c .before .before .before .before .before .good in
     let pre = c .before .before .before .before .before .pre in
     let if2 = c .before .before .if2 in
-    rw (sym (is-unknown .ensures) ∙ if1 .left) (mark-of-leap .ensures ∙ sym (mark-here (args .t1) (simp length-map at (good .0 .1 .1 .0 .1 .0 .1)) pre _ _ (if2 .taken)))
+    rw (sym (is-unknown .ensures) ∙ if1 .left) (mark-of-leap .ensures ∙ sym (mark-here (args .t1) (simp length-map at (good .0 .1 .1 .0 .1 .0 .1)) (pre .0) _ _ (if2 .taken)))
 
 returns-3 : tie.Need-returns-3
 returns-3 c =
@@ -48,7 +48,7 @@ returns-3 c =
     let good = c .before .before .before .good in
     let pre = c .before .before .before .pre in
     let if2 = c .if2 in
-    rw (sym (is-unknown .ensures) ∙ if1 .left) (sym (mark-none (args .t1) (simp length-map at (good .0 .1 .1 .0 .1 .0 .1)) pre _ _ (if2 .left)))
+    rw (sym (is-unknown .ensures) ∙ if1 .left) (sym (mark-none (args .t1) (simp length-map at (good .0 .1 .1 .0 .1 .0 .1)) (pre .0) _ _ (if2 .left)))
 
 pub mark-from-spec : {M : Type 1} → statement M
 mark-from-spec = tie.close (tie.spec (λ c κs. search needs) returns mul-l element-copy-out-l (λ c κs. search needs) returns-2 returns-3)

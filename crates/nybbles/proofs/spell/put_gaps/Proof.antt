@@ -11,15 +11,15 @@ use Rattle.nybbles.proofs.spell.put_gaps.Statement.{statement}
 use Rattle.nybbles.proofs.spell.put_gaps.Tie as tie
 
 abbrev Inv-loop : tie.InvT-loop
-Inv-loop codes₀ s count at₀ last₀ i₀ codes at last i = filled.Fills s codes₀ codes at last i
+Inv-loop end codes₀ s count at₀ last₀ i₀ codes at last i = filled.Fills s codes₀ codes at last i
 
 abbrev μ-loop : tie.MeasureT-loop
-μ-loop codes₀ s count at₀ last₀ i₀ codes at last i = s .count - i
+μ-loop end codes₀ s count at₀ last₀ i₀ codes at last i = s .count - i
 
 loop-holds : tie.Need-loop-holds Inv-loop μ-loop
 loop-holds c =
     let full : length (c .args .t1 .leaps) ≡ 256 = simp length-map at (c .good .0 .1 .1 .0 .1 .0 .1) in
-    filled.fills-start (c .args .t1) _ (c .pre .0) full
+    filled.fills-start (c .args .t1) _ (c .pre .0 .0) (c .pre .0 .1) full
 
 -- to a leap
 put-gap-requires : tie.Need-put-gap-requires Inv-loop μ-loop
@@ -36,7 +36,7 @@ loop-again c =
 returns : tie.Need-returns Inv-loop μ-loop
 returns c =
     let ended = c .before .before in
-    filled.fills-end _ _ _ _ _ _ (ended .before .loop .inv) (ended .loop-test .left) (ended .before .before .pre .1) _ _ (c .put-gap2 .ensures .0) (c .put-gap2 .ensures .1)
+    filled.fills-end _ _ _ _ _ _ (ended .before .loop .inv) (ended .loop-test .left) _ (ended .before .before .pre .0 .2) (ended .before .before .pre .1) _ _ (c .put-gap2 .ensures .0) (c .put-gap2 .ensures .1)
 
 pub put-gaps-spec : {M : Type 1} → statement M
 put-gaps-spec =
@@ -54,6 +54,6 @@ put-gaps-spec =
     (λ c. let inside = c .before .before .before .before .before in omega (arith, filled.room _ _ _ _ _ _ (inside .before .loop .inv), inside .loop-test .taken))
     (λ c. omega (arith, c .before .before .before .before .before .loop-test .taken))
     loop-again
-    (λ c. le-of-lt (fits-lt _ _ (filled.last-fits _ _ _ _ _ _ (c .before .before .loop .inv) (c .before .loop-test .left))))
-    (λ c κs. filled.last-asked _ _ _ _ _ _ (c .before .before .loop .inv) (c .before .loop-test .left))
+    (λ c. le-of-lt (fits-lt _ _ (filled.last-fits _ _ _ _ _ _ (c .before .before .loop .inv) (c .before .loop-test .left) _ (c .before .before .before .pre .0 .2))))
+    (λ c κs. filled.last-asked _ _ _ _ _ _ (c .before .before .loop .inv) (c .before .loop-test .left) _ (c .before .before .before .pre .0 .2))
     returns)

@@ -22,7 +22,7 @@ loop-again c =
     let unsigned = c .before .unsigned in
     let misfit = c .misfit in
     let loop-test = c .before .before .before .before .loop-test in
-    gapped-at-one (args .words .now) (pre) (loop .signs) (loop .faults) (loop .last) (loop .i) (loop .inv) (unsigned .result) (misfit .result)
+    gapped-at-one (args .words .now) (pre .0) (loop .signs) (loop .faults) (loop .last) (loop .i) (loop .inv) (unsigned .result) (misfit .result)
     (loop-test .taken) (unsigned .ensures) (misfit .ensures)
 
 add-signs : tie.Need-add-signs Inv-loop μ-loop
@@ -30,28 +30,28 @@ add-signs c =
     let loop = c .before .before .before .before .loop in
     let unsigned = c .unsigned in
     let pre = c .before .before .before .before .before .before .pre in
-    omega (arith, loop .inv .few, loop .inv .gapped .place, unsigned .ensures .1, pre)
+    omega (arith, loop .inv .few, loop .inv .gapped .place, unsigned .ensures .1, pre .0)
 
 add-faults : tie.Need-add-faults Inv-loop μ-loop
 add-faults c =
     let loop = c .before .before .before .before .before .loop in
     let misfit = c .misfit in
     let pre = c .before .before .before .before .before .before .before .pre in
-    omega (arith, loop .inv .gapped .few, loop .inv .gapped .place, misfit .ensures .1, pre)
+    omega (arith, loop .inv .gapped .few, loop .inv .gapped .place, misfit .ensures .1, pre .0)
 
 add-faults-2 : tie.Need-add-faults-2 Inv-loop μ-loop
 add-faults-2 c =
     let loop = c .before .before .before .loop in
-    let misfit2 = c .misfit2 in
+    let expiry-misfit = c .expiry-misfit in
     let pre = c .before .before .before .before .before .pre in
-    omega (arith, loop .inv .gapped .few, loop .inv .gapped .place, misfit2 .ensures .1, pre)
+    omega (arith, loop .inv .gapped .few, loop .inv .gapped .place, expiry-misfit .ensures .1, pre .0)
 
 add-result : tie.Need-add-result Inv-loop μ-loop
 add-result c =
     let loop = c .before .before .before .loop in
-    let misfit2 = c .misfit2 in
+    let expiry-misfit = c .expiry-misfit in
     let pre = c .before .before .before .before .before .pre in
-    omega (arith, loop .inv .few, loop .inv .gapped .few, loop .inv .gapped .place, misfit2 .ensures .1, pre)
+    omega (arith, loop .inv .few, loop .inv .gapped .few, loop .inv .gapped .place, expiry-misfit .ensures .1, pre .0)
 
 returns : tie.Need-returns Inv-loop μ-loop
 returns c =
@@ -59,8 +59,8 @@ returns c =
     let pre = c .before .before .before .before .before .pre in
     let loop = c .before .before .before .loop in
     let loop-test = c .before .before .loop-test in
-    let misfit2 = c .misfit2 in
-    gapped-at-all (args .words .now) (pre) (loop .signs) (loop .faults) (loop .last) (loop .i) (loop .inv) (loop-test .left) (misfit2 .result) (misfit2 .ensures .0)
+    let expiry-misfit = c .expiry-misfit in
+    gapped-at-all (args .words .now) (pre .0) (loop .signs) (loop .faults) (loop .last) (loop .i) (loop .inv) (loop-test .left) (expiry-misfit .result) (expiry-misfit .ensures .0)
 
 pub leaps-fit-spec : {M : Type 1} → statement M
 leaps-fit-spec =
