@@ -39,8 +39,7 @@ extern "C" {
  * word of a leap_schedule was `expiry`, a month number; now it is `expiry_mjd`, a
  * day. Every month number is a day before 1972, so a stored binary leap_schedule
  * of version 1 is refused with 11 by every call that looks at it (in a replay a Q
- * prints "!11"), and never misread. Store the text list instead, or read the list
- * again. */
+ * prints "!11"), and never misread. Read the list again in its place. */
 #define LEAP_API_VERSION 2
 
 /* What a call returns, or puts into `numbers`. */

@@ -23,7 +23,7 @@ at-most-one-off {d} p q =
     let r = closed-right {m = m} (omega (arith, month-below p q)) in
     record { low = omega (arith, i .from, r .first); high = omega (arith, i .before, start-next m, r .last) }
 
--- so a month starts by its number's share of the days, two months later at most: 487 days to 16 months, from day 41301 on
+-- so with 487 days to 16 months, counted from day 41301, no month starts as late as the month two numbers on would
 pub start-by : {m : ℕ} → m < lastMonth → 16 * monthStart m < 487 * (m + 2) + 16 * 41_301
 start-by {m} h =
     let d = monthStart m in

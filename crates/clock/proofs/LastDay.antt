@@ -16,13 +16,13 @@ use Rattle.schedule.proofs.Gaps.{parts}
 use Rattle.schedule.proofs.WordLayout.{within}
 use Rattle.clock.specs.declared.days.Ending.the-variants.{Ordinary}
 use Rattle.clock.specs.Days.{longDay, ending, dayLength, tai}
-use Rattle.clock.specs.Smoothed.{nanosPerDay, uts}
+use Rattle.clock.specs.Smoothed.{nanosPerDay, uts, utcOf}
 use Rattle.clock.specs.Known.{lastDay, fullyKnown, taiCutoff, utsCutoff, nanosCutoff, taiEnd}
 use Rattle.clock.specs.Question.{Answer, given, refused, firstTai, atInstant, atUtc, utcToTai, taiToUtc, utcToUts, utsToUtc, TAI-to-UTC, Utc}
 use Rattle.clock.proofs.Tai.{expires-later, ending-last}
 use Rattle.clock.proofs.Uts.{uts-is, uts-plain}
 use Rattle.clock.proofs.Back.{back-plain, back-ordinary}
-use Rattle.clock.proofs.Checks.{Sure, whole-shut, known-whole, known-from, pass, stop, instant-passed, utc-answered}
+use Rattle.clock.proofs.Checks.{Sure, whole-near, whole-shut, known-whole, known-from, pass, stop, instant-passed, utc-answered}
 use Rattle.clock.proofs.Taken.{taken}
 
 -- UTS on a day without a leap
@@ -52,6 +52,20 @@ module _ (s : Schedule) (w : wellFormed s ≡ true) where
       ∙ pass noInstant (lt-ltb t limit h)
       ∙ stop a notKnown (known-from (lastDay s) cutoff (s .expiry - 1) t (omega arith) c ∙ k)
 
+  -- ---- every day before it, whatever the expiry
+
+  module _ (day : ℕ) (from : 41_317 ≤ day) (early : day + 1 < s .expiry) where
+    -- each of its instants has a TAI and a smoothed time, and each smoothed time a UTC
+    pub before-tai : (t : ℕ) → t < dayLength (ending s day) → utcToTai s day t ≡ given (tai s day t)
+    before-tai t h = utc-answered s taiCutoff day t (tai s day t) w from (inl (omega (arith, whole-near (lastDay s)))) h
+
+    pub before-uts : (t : ℕ) → t < dayLength (ending s day) → utcToUts s day t ≡ given (uts (ending s day) t)
+    before-uts t h = utc-answered s utsCutoff day t (uts (ending s day) t) w from (inl (omega (arith, whole-near (lastDay s)))) h
+
+    pub before-back : (u : ℕ) → u < 86_400_000_000_000 → utsToUtc s day u ≡ given (utcOf (ending s day) u)
+    before-back u h =
+        instant-passed s nanosPerDay nanosCutoff day u (record { well = w; from = from; below = h; sure = inl (omega (arith, whole-near (lastDay s))) })
+
   -- ---- the expiry is no first of a month
 
   module _ (inside : (m : ℕ) → monthStart m ≢ s .expiry) where
@@ -75,7 +89,7 @@ module _ (s : Schedule) (w : wellFormed s ≡ true) where
         instant-passed s nanosPerDay nanosCutoff (s .expiry - 1) u (record { well = w; from = from-first; below = h; sure = sure nanosCutoff u })
         ∙ ap given (rw (ending-last s w) (sym (back-ordinary u h)))
 
-    -- that day has no second more: 9, and not 10
+    -- from 86,400,000,000 on that day has no instant: 9, and not 10
     beyond : {A : Type 0} (cutoff t : ℕ) (v : A) → 86_400_000_000 ≤ t → atUtc s cutoff (s .expiry - 1) t v ≡ refused 9
     beyond cutoff t v h =
         pass notWellFormed w

@@ -63,7 +63,7 @@ pub(crate) fn day_length(w: Ending) -> u64
     }
 }
 
-// The last day before an expiry. A day past the calendar, on which no list expires, gets the last day of the calendar, and day 0 itself.
+// The last day before an expiry. Past the calendar, where no list expires, it is the calendar's last day, and for day 0 it is day 0.
 pub(crate) fn day_before(expiry: u32) -> u64
     ensures { λ r. ⌜ (expiry ≤ endDay → r ≡ expiry - 1) × (r < endDay) ⌝ }
 {

@@ -1,6 +1,6 @@
 -- Reading back: the nybble list of a well-formed schedule is read as that schedule.
 -- Assumes nothing.
-use mathlib.Core.Path.{_≡_, refl, ap, _∙_}
+use mathlib.Core.Path.{_≡_, refl, ap, _∙_, sym}
 use mathlib.Core.Bool.{true}
 use mathlib.Core.List.{List, [], _∷_, _++_, map, map-append, append-nil}
 use Prim.Native.Nat.{ℕ, _+_, _*_, _-_, _%_, _≤_, _<_}
@@ -22,6 +22,7 @@ use Rattle.schedule.proofs.Gaps.{fits-lt, fits-le, parts}
 use Rattle.schedule.proofs.Rounded.{gapsTo, first-to, later-to, before-to, rounded-gaps, rounded-well, rounds-itself, first-leaves-gap}
 use Rattle.calendar.proofs.Laws.{month-most}
 use Rattle.schedule.proofs.Adds.{adds, made-again}
+use Rattle.nybbles.proofs.Sound.{accepted-first}
 use Rattle.nybbles.specs.declared.code.Mark.{Mark}
 use Rattle.nybbles.specs.declared.code.Mark.the-variants.{Leaps, Expires}
 use Rattle.nybbles.specs.declared.code.Code.{Code}
@@ -122,3 +123,7 @@ reads-back-rounded s full w g =
 -- so every one that expires on the first of a month is read back as itself
 pub reads-back : (s : Schedule) → length (s .leaps) ≡ 256 → wellFormed s ≡ true → startsMonth (s .expiry) ≡ true → readNybbles (nybblesOf s) ≡ record { number = 0; place = 0; schedule = s }
 reads-back s full w m = reads-back-rounded s full w (first-leaves-gap s w m) ∙ ap (λ (t : Schedule). record { number = 0; place = 0; schedule = t }) (rounds-itself s m)
+
+-- and no other does
+pub only-first : (s : Schedule) → readNybbles (nybblesOf s) ≡ record { number = 0; place = 0; schedule = s } → startsMonth (s .expiry) ≡ true
+only-first s e = ap (λ (r : Reading). startsMonth (r .schedule .expiry)) (sym e) ∙ accepted-first (nybblesOf s) (ap (λ (r : Reading). r .number) e)

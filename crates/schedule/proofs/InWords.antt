@@ -1,4 +1,4 @@
--- "Well formed" and "extends" in the paper's words and numbers, by the month of the expiry day and by the leaps that a longer list has further.
+-- "Well formed" and "extends" in the paper's words and numbers, by the month of the expiry day, and by the further leaps of a longer list.
 -- Assumes nothing.
 use mathlib.Core.Path.{_≡_, refl, sym, ap, _∙_}
 use mathlib.Core.Bool.{true, false, true≢false}
@@ -101,7 +101,7 @@ old-words words h =
 
 -- ---- rounding down
 
--- the schedule rounded down expires on the last first of a month that is no later than the expiry day
+-- the schedule rounded down expires on the latest first of a month that is not after the expiry day
 pub rounded-is-last : (s : Schedule) → wellFormed s ≡ true
     → (roundedDown s .expiry ≤ s .expiry) × (startsMonth (roundedDown s .expiry) ≡ true) × ((m : ℕ) → monthStart m ≤ s .expiry → monthStart m ≤ roundedDown s .expiry)
 rounded-is-last s w =

@@ -26,9 +26,9 @@ pub(crate) fn misfit(from: u32, to: u32) -> u32
     1
 }
 
-// 0 if an expiry day within the calendar is later than the first day of a month, and at most 999 months after it by month number; else 1. Where
-// it lies between bounds of the months' starts, as in most lists, no start is computed: the last leap's month starts less than two months after
-// its number's share of the days, which are 487 to 16 months from day 41301 on, and 1000 months have 28,000 days or more.
+// 0 if an expiry day within the calendar is later than the first day of a month, and at most 999 months after it by month number; else 1. In most
+// lists it lies between bounds that take no computed start: with 487 days to 16 months, counted from day 41301, no month starts as late as the
+// month two numbers on would; and 1000 months have 28,000 days or more.
 pub(crate) fn expiry_misfit(from: u32, expiry: u32) -> u32
     requires { ⌜ expiry ≤ endDay ⌝ }
     ensures { λ r. ⌜ (eqb r 0 ≡ expiryFits from expiry) × (r ≤ 1) ⌝ }

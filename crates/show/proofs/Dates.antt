@@ -1,12 +1,18 @@
 -- The date that is printed for an MJD is that of the calendar. Assumes nothing.
 use mathlib.Core.Path.{_≡_, ap, _∙_}
-use mathlib.Core.List.{_∷_, _++_}
+use mathlib.Core.Bool.{true}
+use mathlib.Core.List.{[], _∷_, _++_}
 use Prim.Native.Nat.{ℕ, _+_, _-_, _/_, _%_, _<_}
 use native.Mathlib.Omega.{arith}
-use Rattle.format.specs.Decimal.{decimal, pair}
+use Rattle.format.specs.Ascii.{ascii}
+use Rattle.format.specs.Decimal.{digitsIn, decimal, pair, withSign}
+use Rattle.format.specs.Lines.{between}
 use Rattle.calendar.specs.Calendar.{InMonth, daysInMonth, monthStart, monthOf}
 use Rattle.calendar.proofs.Laws.{start-next, start-last, late-month, is-month}
-use Rattle.show.specs.Show.{date, dateOf}
+use Rattle.schedule.specs.declared.Schedule.{Schedule}
+use Rattle.schedule.specs.Schedule.{leapsOf, wellFormed}
+use Rattle.clock.specs.Days.{dtai}
+use Rattle.show.specs.Show.{date, dateOf, stretch, stretches, shown}
 
 by-month : (day m d : ℕ) → monthOf day ≡ m → day - monthStart m + 1 ≡ d → dateOf day ≡ date m d
 unfolding dateOf
@@ -24,3 +30,13 @@ date-of m d h g =
 pub last-date : dateOf 114_366 ≡ decimal 2172 ++ (45 ∷ pair 1 ++ (45 ∷ pair 1))
 unfolding date
 last-date = by-month 114_366 2400 1 (late-month (omega arith)) (omega (arith, start-last))
+
+ten : (s : Schedule) → leapsOf s ≡ [] → withSign (dtai s 41_317) ≡ ascii "+10"
+unfolding decimal digitsIn
+ten s e = rw e
+
+-- a list without leaps is shown as its one stretch, from 1972-01-01 to the day before its expiry, and its expiry
+pub shown-alone : (s : Schedule) → wellFormed s ≡ true → leapsOf s ≡ []
+    → shown true s ≡ dateOf 41_317 ++ (32 ∷ dateOf (s .expiry - 1) ++ (32 ∷ ascii "+10")) ++ (10 ∷ dateOf (s .expiry) ++ ascii " unknown")
+unfolding shown stretches stretch between
+shown-alone s w e = rw (w, e, ten s e)

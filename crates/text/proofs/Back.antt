@@ -1,6 +1,6 @@
 -- Reading back: the text of a well-formed schedule is read as that schedule rounded down, so as itself where it expires on the first of a month.
 -- Assumes nothing.
-use mathlib.Core.Path.{_≡_, refl, ap, _∙_}
+use mathlib.Core.Path.{_≡_, refl, ap, _∙_, sym}
 use mathlib.Core.Bool.{true}
 use mathlib.Core.List.{List, [], _∷_, _++_, append-assoc}
 use Prim.Native.Nat.{ℕ, _+_, _*_, _-_, _/_, _%_, _≤_, _<_}
@@ -14,6 +14,7 @@ use Rattle.schedule.specs.declared.Sign.{Sign}
 use Rattle.schedule.specs.declared.Sign.the-variants.{Positive, Negative}
 use Rattle.schedule.specs.declared.Leap.{Leap}
 use Rattle.schedule.specs.declared.Schedule.{Schedule}
+use Rattle.schedule.specs.declared.Reading.{Reading}
 use Rattle.schedule.specs.Schedule.{monthStart, blankSchedule, leapsOf, expiryMonth, roundedDown, leavesGap, wellFormed}
 use Rattle.calendar.specs.Calendar.{startsMonth}
 use Rattle.calendar.proofs.Laws.{month-most}
@@ -22,6 +23,7 @@ use Rattle.schedule.proofs.Cases.{by-bool}
 use Rattle.schedule.proofs.Gaps.{fits-lt, fits-le, parts}
 use Rattle.schedule.proofs.Rounded.{gapsTo, first-to, later-to, before-to, rounded-gaps, rounded-well, rounds-itself, first-leaves-gap}
 use Rattle.schedule.proofs.Adds.{adds, made-again}
+use Rattle.text.proofs.Sound.{accepted-first}
 use Rattle.text.specs.Bytes.{zeroByte, nineByte, endByte, isDigit, digitOf, signByte}
 use Rattle.text.specs.Read.{readFrom, readText}
 use Rattle.text.specs.Write.{digits, textFrom, textOf}
@@ -95,3 +97,7 @@ reads-back-rounded s full w g =
 -- so every one that expires on the first of a month reads back as itself
 pub reads-back : (s : Schedule) → length (s .leaps) ≡ 256 → wellFormed s ≡ true → startsMonth (s .expiry) ≡ true → readText (textOf s) ≡ record { number = 0; place = 0; schedule = s }
 reads-back s full w m = reads-back-rounded s full w (first-leaves-gap s w m) ∙ ap (λ (t : Schedule). record { number = 0; place = 0; schedule = t }) (rounds-itself s m)
+
+-- and no other does
+pub only-first : (s : Schedule) → readText (textOf s) ≡ record { number = 0; place = 0; schedule = s } → startsMonth (s .expiry) ≡ true
+only-first s e = ap (λ (r : Reading). startsMonth (r .schedule .expiry)) (sym e) ∙ accepted-first (textOf s) (ap (λ (r : Reading). r .number) e)

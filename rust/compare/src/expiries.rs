@@ -1,5 +1,5 @@
-//! What must be met of expiries: the kinds of schedules by their expiry, and of
-//! questions at the end of what a list knows.
+//! The kinds of schedules by their expiry, and of questions at the end of what a
+//! list knows, that a run must come across.
 
 use leap::ffi::Words;
 
@@ -41,7 +41,7 @@ const MALFORMED: [(&str, Is); 5] = [
     ("no list, for an expiry on the first day of its last leap's month", |expiry, last| expiry == month_start(last)),
     ("no list, for an expiry on the first of the month 1000 after its last leap", |expiry, last| is_far(last) && expiry == latest_expiry(last) + 1),
     ("no list, for an expiry on MJD 114367", |expiry, _| expiry == LAST_EXPIRY + 1),
-    ("no list, for an expiry month in place of its day", |expiry, _| (1..=LAST_MONTH).contains(&expiry)),
+    ("no list, for a month number where the expiry day stands", |expiry, _| (1..=LAST_MONTH).contains(&expiry)),
     ("no list, for an expiry of more than 17 bits", |expiry, _| expiry >> 17 != 0),
 ];
 
