@@ -15,8 +15,8 @@ use Rattle.clock.specs.Question.{firstTai, Question, DTAI, UTC-to-TAI, T
 abbrev pub Within : ℕ → ℕ → ℕ → ℕ → Type 0
 Within Z cutoff day t = (day < Z) ⊎ ((day ≡ Z) × ((fullyKnown Z ≡ true) ⊎ (t < cutoff)))
 
--- a date from 1972 through Z; an instant of UTC from 1972 on that its day has, before Z or on it below the cut-off of TAI or of UTS; an
--- instant of UTS from 1972 on, likewise; a TAI from that of 1972 on, below that of Z at its cut-off
+-- a date from 1972 through Z; an instant of UTC from 1972 on that its day has, before Z or on it below the cut-off of TAI or of UTS, which does not
+-- apply if Z is fully known; an instant of UTS from 1972 on, likewise; a TAI from that of 1972 on, below that of Z at its cut-off or at its end
 abbrev pub Takes : Schedule → Question → Type 0
 Takes s (DTAI day) = (firstDay ≤ day) × (day ≤ lastDay s)
 Takes s (UTC-to-TAI day t) = (firstDay ≤ day) × (t < dayLength (ending s day)) × Within (lastDay s) taiCutoff day t

@@ -96,7 +96,8 @@ pub(crate) fn uts_on(k: Day, day: u64, micros: u64) -> UtsAnswer
     UtsAnswer::Given(UtsNanos(smoothed(w, micros)))
 }
 
-// UTC to smoothed time under a well-formed list, before the last 1,001 s of a day, where it does not depend on how the day ends and is known on every known date.
+// UTC to smoothed time under a well-formed list, before the last 1,001 s of a day, where it does not depend on how the day ends and is known on
+// every known date.
 pub(crate) fn early_uts(last: u64, day: u64, micros: u64) -> UtsAnswer
     requires { ⌜ micros < utsCutoff ⌝ }
     ensures { λ r. ⌜ ((s : Schedule) → ListFor s true last → r ≡ utsAnswer (utcToUts s day micros)) ⌝ }

@@ -40,22 +40,22 @@ listN = 54 ∷ 45 ∷ 53 ∷ 63 ∷ []
 
 abbrev pub table : List Row
 table =
-    -- P1 `5?`: no leap, expiry on the first day of month 5
-    text (53 ∷ 63 ∷ []) (accepted blankSchedule (monthStart 5))
+    -- P1 `5?`: no leap, expiry on the first day of month 5, 1 June 1972
+    text (53 ∷ 63 ∷ []) (accepted blankSchedule 41469)
     -- P2 empty text: 1 at 0
     ∷ text [] (refusal 1 0)
     -- P3 `06+5?`: 3 at 0
     ∷ text (48 ∷ 54 ∷ 43 ∷ 53 ∷ 63 ∷ []) (refusal 3 0)
     -- P4 `1000?`: 3 at 3
     ∷ text (49 ∷ 48 ∷ 48 ∷ 48 ∷ 63 ∷ []) (refusal 3 3)
-    -- P5 `999?` is taken
-    ∷ text (57 ∷ 57 ∷ 57 ∷ 63 ∷ []) (accepted blankSchedule (monthStart 999))
+    -- P5 `999?` is taken: expiry on 1 April 2055
+    ∷ text (57 ∷ 57 ∷ 57 ∷ 63 ∷ []) (accepted blankSchedule 71723)
     -- P6 `5?` and a newline: 6 at 2
     ∷ text (53 ∷ 63 ∷ 10 ∷ []) (refusal 6 2)
-    -- P7 nybbles F4: expiry 5
-    ∷ nybble (0xF4 ∷ []) (accepted blankSchedule (monthStart 5))
-    -- P8 nybbles 0F: leap at 6, expiry 11
-    ∷ nybble (0x0F ∷ []) (accepted (withLeap blankSchedule 6 Positive) (monthStart 11))
+    -- P7 nybbles F4: expiry on the first day of month 5
+    ∷ nybble (0xF4 ∷ []) (accepted blankSchedule 41469)
+    -- P8 nybbles 0F: leap at 6, expiry on the first day of month 11, 1 December 1972
+    ∷ nybble (0x0F ∷ []) (accepted (withLeap blankSchedule 6 Positive) 41652)
     -- P9 nybbles 9D: 1 at 2
     ∷ nybble (0x9D ∷ []) (refusal 1 2)
     -- P10 `6+5?`, MJD 41498, t 86,400,000,000: UTS 86,399,001,000,000

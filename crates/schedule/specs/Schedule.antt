@@ -78,8 +78,8 @@ unfoldable pub allUnused : List Leap → Bool
 allUnused [] = true
 allUnused (l ∷ ls) = isUnused l && allUnused ls
 
--- "well formed": at most 256 leaps, the expiry at most day 114366, every gap from month 0 on to the last leap 1 to 999, the expiry at most 999 months
--- after that by month number, the other places unused
+-- "well formed": at most 256 leaps, the expiry at most day 114366, every gap from month 0 on to the last leap 1 to 999, the expiry later than the
+-- first day of the last leap's month and at most 999 months after it by month number, the other places unused
 abbrev pub wellFormed : Schedule → Bool
 wellFormed s =
     leb (s .count) maxLeaps

@@ -18,7 +18,7 @@ use Rattle.text.specs.Bytes.{zeroByte, isDigit, digitOf, markOf}
 abbrev pub mayFollow : ℕ → ℕ → Bool
 mayFollow gap b = cond (eqb gap 0) (not (eqb b zeroByte)) (ltb gap 100)
 
--- nothing follows the "?"; the list expires on a day
+-- nothing follows the "?": the list is taken, with its expiry day
 abbrev pub atEnd : ℕ → Schedule → ℕ → List ℕ → Reading
 atEnd place s expiry [] = accepted s expiry
 atEnd place s expiry (b ∷ bs) = refusal afterEnd place
