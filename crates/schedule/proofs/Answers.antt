@@ -1,17 +1,17 @@
 -- The answers of a writer: of bytes that fit or do not, and of the list of a schedule.
 -- Assumes nothing.
-use mathlib.Core.Path.{_≡_, ap, _∙_}
+use mathlib.Core.Path.{_≡_, sym, ap, _∙_}
 use mathlib.Core.Bool.{true, false}
 use mathlib.Core.List.{List, _++_}
 use Prim.Native.Nat.{ℕ, _+_, _≤_, _<_}
 use native.Mathlib.Omega.{arith}
 use lib.ListN.{length, drop}
 use lib.Seq.{sets, sets-eq}
-use borrow.Author.Tests.{le-leb, lt-leb}
-use Rattle.schedule.specs.declared.Schedule.{Schedule}
+use borrow.Author.Tests.{le-leb, lt-leb, lt-ltb, le-ltb}
 use Rattle.schedule.specs.declared.Writing.{Writing}
-use Rattle.schedule.specs.Schedule.{leavesGap, wellFormed}
-use Rattle.schedule.specs.Answers.{unwritten, fitting, fitted, writing, written}
+use Rattle.schedule.specs.Schedule.{Schedule, monthOf, lastLeap, leavesGap, wellFormed}
+use Rattle.schedule.specs.Answers.{unwritten, fitting, fitted, unwritable, writing, written}
+use Rattle.schedule.proofs.Cases.{by-bool}
 
 module _ (bytes out : List ℕ) where
   -- what writing bytes promises of its answer and of the output
@@ -34,6 +34,29 @@ module _ (bytes out : List ℕ) where
       let l : length out < length bytes = omega arith in
       (simp (lt-leb (length bytes) (length out) l), simp (lt-leb (length bytes) (length out) l))
 
+-- the number with which every writer refuses a schedule
+module _ (s : Schedule) where
+  pub not-formed : wellFormed s ≡ false → unwritable s ≡ 11
+  unfolding unwritable
+  not-formed w = simp w
+
+  module _ (w : wellFormed s ≡ true) {last month expiry : ℕ} (l : last ≡ lastLeap 0 (s .leaps)) (m : month ≡ monthOf expiry) (e : s .expiry ≡ expiry) where
+    pub has-gap : last < month → unwritable s ≡ 0
+    unfolding unwritable
+    has-gap h = simp (w, lt-ltb (lastLeap 0 (s .leaps)) (monthOf (s .expiry)) (omega (arith, ap monthOf e)))
+
+    pub without-gap : month ≤ last → unwritable s ≡ 17
+    unfolding unwritable
+    without-gap h = simp (w, le-ltb (lastLeap 0 (s .leaps)) (monthOf (s .expiry)) (omega (arith, ap monthOf e)))
+
+  -- 0 says that it can be written
+  pub writable : unwritable s ≡ 0 → (wellFormed s ≡ true) × (leavesGap s ≡ true)
+  unfolding unwritable
+  writable e =
+      by-bool (wellFormed s)
+      (λ w. (w, by-bool (leavesGap s) (λ g. g) (λ g. let z : 17 ≡ 0 = simp (w, g) at e in absurd (omega arith))))
+      (λ w. let z : 11 ≡ 0 = simp w at e in absurd (omega arith))
+
 -- what a writer promises of its answer and of the output
 abbrev pub Answer : Schedule → List ℕ → List ℕ → Writing → List ℕ → Type 0
 Answer s bytes out r exit = (r ≡ writing s bytes (length out)) × (exit ≡ written s bytes out)
@@ -50,10 +73,10 @@ module _ (s : Schedule) (bytes out : List ℕ) where
   pub short : wellFormed s ≡ true → leavesGap s ≡ true → (n : ℕ) → n ≡ length bytes → length out < n → Answer s bytes out (record { number = 7; count = 0 }) out
   short w g n e h = formed w g (no-room bytes out n e h)
 
-  pub no-gap : wellFormed s ≡ true → leavesGap s ≡ false → Answer s bytes out (record { number = 17; count = 0 }) out
-  unfolding writing written
-  no-gap w g = (simp (w, g), simp (w, g))
-
-  pub wrong : wellFormed s ≡ false → Answer s bytes out (record { number = 11; count = 0 }) out
-  unfolding writing written
-  wrong w = (simp w, simp w)
+  -- another number is the refusal
+  pub refused : (unwritable s ≡ 0 → ⊥) → Answer s bytes out (unwritten (unwritable s)) out
+  unfolding writing written unwritable
+  refused n =
+      by-bool (wellFormed s)
+      (λ w. by-bool (leavesGap s) (λ g. absurd (n (simp (w, g)))) (λ g. (simp (w, g), simp (w, g))))
+      (λ w. (simp w, simp w))

@@ -2,9 +2,8 @@
 use mathlib.Core.Path.{_≡_}
 use Prim.Native.Nat.{ℕ}
 use borrow.Author.Tests.{eq-eqb, ne-eqb}
-use Rattle.schedule.specs.declared.Schedule.{Schedule}
-use Rattle.schedule.specs.declared.Reading.{Reading}
-use Rattle.schedule.specs.Answers.{byReading}
+use Rattle.schedule.specs.Schedule.{Schedule}
+use Rattle.schedule.specs.Answers.{Reading, byReading}
 
 module _ {A : Type 0} {r s : Reading} (refuse : ℕ → ℕ → A) (f : Schedule → A) (e : r ≡ s) where
   pub read-refused : (r .number ≡ 0 → ⊥) → byReading s refuse f ≡ refuse (r .number) (r .place)

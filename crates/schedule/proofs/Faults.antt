@@ -1,21 +1,21 @@
--- The faults of a schedule, counted place by place: there is none exactly when it is well formed.
+-- The faults of words, counted place by place: there is none exactly when they are the words of a well-formed schedule.
 -- Assumes nothing.
 use mathlib.Core.Bool.{Bool, true, false, _&&_, and-true}
-use mathlib.Core.List.{_∷_}
-use mathlib.Core.Path.{_≡_, refl, sym, ap, _∙_}
+use mathlib.Core.List.{List, _∷_}
+use mathlib.Core.Path.{_≡_, refl, sym, ap, ap₂, _∙_}
 use Prim.Native.Nat.{ℕ, zero, suc, _+_, _-_, _*_, _%_, _≤_, _<_}
 use native.Mathlib.Numerals.{add-one}
 use native.Mathlib.Decide.{decLt}
 use native.Mathlib.Omega.{arith}
-use lib.Dec.{eqb}
+use lib.Dec.{eqb, ltb}
 use lib.ListN.{length, drop, getD}
-use lib.Seq.{drop-cons}
 use borrow.Author.Tests.{le-leb, lt-leb, lt-ltb, le-ltb, eq-eqb, ne-eqb}
-use Rattle.schedule.specs.declared.Schedule.{Schedule}
-use Rattle.schedule.specs.Schedule.{maxLeaps, maxGap, endDay, noLeap, leapsOf, gapFits, expiryFits, gapsFit, isUnused, allUnused, wellFormed}
-use Rattle.schedule.specs.Inner.{greatMonth}
-use Rattle.schedule.proofs.Formed.{in-use, used, gap-last, unused-last}
+use Rattle.schedule.specs.Schedule.{Leap, Schedule, maxLeaps, maxGap, noLeap, gapFits, expiryFits, gapsFit}
+use Rattle.schedule.specs.Private.{greatMonth, signsFit}
+use Rattle.schedule.specs.WordLayout.{countWord, expiryWord, laidOut}
+use Rattle.schedule.proofs.Formed.{in-use, gap-last}
 use Rattle.schedule.proofs.Gaps.{fits-lt, fits-le}
+use Rattle.schedule.proofs.WordLayout.{month-in-place, laid-length, laid-leap}
 
 -- ---- counting faults
 
@@ -43,27 +43,27 @@ module _ (from to gap past : ℕ) (d : (gap + from) % 4_294_967_296 ≡ to) (e :
 
 -- ---- the leaps in use, up to place i: the faults in the gaps, and how great the month is where there is none
 pub record Gapped (s : Schedule) (faults last i : ℕ) : Type 0 where
-  pub place : i ≤ s .count
-  pub gaps : gapsFit 0 (leapsOf s) (s .expiry) ≡ (eqb faults 0 && gapsFit last (drop i (leapsOf s)) (s .expiry))
+  pub place : i ≤ length (s .leaps)
+  pub gaps : gapsFit 0 (s .leaps) (s .expiry) ≡ (eqb faults 0 && gapsFit last (drop i (s .leaps)) (s .expiry))
   pub few : faults ≤ i
   pub small : faults ≡ 0 → last ≤ maxGap * i
 
 pub gapped-none : (s : Schedule) → Gapped s 0 0 0
 gapped-none s = record { place = omega arith; gaps = refl; few = omega arith; small = λ e. omega arith }
 
-module _ (s : Schedule) (full : length (s .leaps) ≡ maxLeaps) (room : s .count ≤ maxLeaps) (faults last i : ℕ) (p : Gapped s faults last i) where
+module _ (s : Schedule) (room : length (s .leaps) ≤ maxLeaps) (faults last i : ℕ) (p : Gapped s faults last i) where
   below-half : faults ≡ 0 → last < greatMonth
-  below-half e = omega (arith, p .small e, p .place)
+  below-half e = omega (arith, p .small e, p .place, room)
 
-  gaps-one : (at r : ℕ) → i < s .count → at ≡ getD (s .leaps) i noLeap .month → (faults ≡ 0 → eqb r 0 ≡ gapFits last at)
-      → gapsFit 0 (leapsOf s) (s .expiry) ≡ (eqb (faults + r) 0 && gapsFit at (drop (i + 1) (leapsOf s)) (s .expiry))
+  gaps-one : (at r : ℕ) → i < length (s .leaps) → at ≡ getD (s .leaps) i noLeap .month → (faults ≡ 0 → eqb r 0 ≡ gapFits last at)
+      → gapsFit 0 (s .leaps) (s .expiry) ≡ (eqb (faults + r) 0 && gapsFit at (drop (i + 1) (s .leaps)) (s .expiry))
   unfolding gapsFit
   gaps-one at r h m e =
       p .gaps
-      ∙ ap (λ ls. eqb faults 0 && gapsFit last ls (s .expiry)) (in-use s i (omega (arith, used s full i room)))
-      ∙ rw (← m) (one-more faults r (gapFits last at) (gapsFit at (drop (i + 1) (leapsOf s)) (s .expiry)) e)
+      ∙ ap (λ ls. eqb faults 0 && gapsFit last ls (s .expiry)) (in-use s i h)
+      ∙ rw (← m) (one-more faults r (gapFits last at) (gapsFit at (drop (i + 1) (s .leaps)) (s .expiry)) e)
 
-  pub gapped-one : (at r : ℕ) → i < s .count → at ≡ getD (s .leaps) i noLeap .month → (last < greatMonth → eqb r 0 ≡ gapFits last at) × (r ≤ 1) → Gapped s (faults + r) at (i + 1)
+  pub gapped-one : (at r : ℕ) → i < length (s .leaps) → at ≡ getD (s .leaps) i noLeap .month → (last < greatMonth → eqb r 0 ≡ gapFits last at) × (r ≤ 1) → Gapped s (faults + r) at (i + 1)
   gapped-one at r h m e =
       let fit : faults ≡ 0 → eqb r 0 ≡ gapFits last at = λ z. e .0 (below-half z) in
       record {
@@ -77,41 +77,44 @@ module _ (s : Schedule) (full : length (s .leaps) ≡ maxLeaps) (room : s .count
       }
 
   -- after the last leap
-  pub gapped-all : s .count ≤ i → (r : ℕ) → eqb r 0 ≡ expiryFits last (s .expiry) → gapsFit 0 (leapsOf s) (s .expiry) ≡ eqb (faults + r) 0
+  pub gapped-all : length (s .leaps) ≤ i → (r : ℕ) → eqb r 0 ≡ expiryFits last (s .expiry) → gapsFit 0 (s .leaps) (s .expiry) ≡ eqb (faults + r) 0
   gapped-all h r e =
       p .gaps
-      ∙ ap (λ b. eqb faults 0 && b) (gap-last s full i room h last (s .expiry) ∙ sym (and-true (expiryFits last (s .expiry))))
+      ∙ ap (λ b. eqb faults 0 && b) (gap-last s i h last (s .expiry) ∙ sym (and-true (expiryFits last (s .expiry))))
       ∙ (one-more faults r (expiryFits last (s .expiry)) true (λ z. e) ∙ and-true (eqb (faults + r) 0))
 
--- ---- the places that are not in use, up to place i
-pub record Rest (s : Schedule) (faults i : ℕ) : Type 0 where
-  pub place : i ≤ maxLeaps
-  pub few : faults ≤ i + 1
-  pub well : wellFormed s ≡ (eqb faults 0 && allUnused (drop i (s .leaps)))
+-- ---- words: up to leap i the faults in the gaps of the schedule laid out, and those of the sign words
+pub record GappedAt (words : List ℕ) (signs faults last i : ℕ) : Type 0 where
+  pub gapped : Gapped (laidOut words) faults last i
+  pub signed : signsFit words i ≡ eqb signs 0
+  pub few : signs ≤ i
 
-module _ (s : Schedule) (full : length (s .leaps) ≡ maxLeaps) (faults i : ℕ) where
-  pub rest-none : s .count ≤ maxLeaps → s .expiry ≤ endDay → i ≡ s .count → faults ≤ i + 1 → gapsFit 0 (leapsOf s) (s .expiry) ≡ eqb faults 0 → Rest s faults i
-  rest-none room end e few gaps =
-      record { place = omega arith; few = few; well = rw (e, le-leb (s .count) maxLeaps room, le-leb (s .expiry) endDay end, gaps) }
+pub gapped-at-none : (words : List ℕ) → GappedAt words 0 0 0 0
+unfolding signsFit
+gapped-at-none words = record { gapped = gapped-none (laidOut words); signed = refl; few = omega arith }
 
-  module _ (p : Rest s faults i) where
-    pub rest-one : (r : ℕ) → i < maxLeaps → (eqb r 0 ≡ isUnused (getD (s .leaps) i noLeap)) × (r ≤ 1) → Rest s (faults + r) (i + 1)
-    unfolding allUnused
-    rest-one r h e =
-        let x = getD (s .leaps) i noLeap in
-        let step : drop i (s .leaps) ≡ x ∷ drop (i + 1) (s .leaps) = rw (add-one, drop-cons (s .leaps) i noLeap (omega arith)) in
-        record {
-          place = omega arith;
-          few = omega (arith, p .few, e .1);
-          well = p .well ∙ ap (λ ls. eqb faults 0 && allUnused ls) step ∙ one-more faults r (isUnused x) (allUnused (drop (i + 1) (s .leaps))) (λ z. e .0);
-        }
+signs-one : (words : List ℕ) (i : ℕ) → signsFit words (i + 1) ≡ (signsFit words i && ltb (getD words (2 * i + 1) 0) 2)
+unfolding signsFit
+signs-one words i = rw (add-one i)
 
-    pub rest-all : maxLeaps ≤ i → eqb faults 0 ≡ wellFormed s
-    rest-all h = sym (p .well ∙ rw (unused-last s full i h, and-true (eqb faults 0)))
+module _ (words : List ℕ) (room : countWord words ≤ maxLeaps) (signs faults last i : ℕ) (p : GappedAt words signs faults last i) where
+  laid-room : length (laidOut words .leaps) ≤ maxLeaps
+  laid-room = omega (arith, laid-length words)
 
--- ---- what no count is needed for
-pub too-many : (s : Schedule) → maxLeaps < s .count → wellFormed s ≡ false
-too-many s h = rw (lt-leb (s .count) maxLeaps h)
+  pub gapped-at-one : (z r : ℕ) → i < countWord words → (eqb z 0 ≡ ltb (getD words (2 * i + 1) 0) 2) × (z ≤ 1) → (last < greatMonth → eqb r 0 ≡ gapFits last (getD words (2 * i) 0)) × (r ≤ 1)
+      → GappedAt words (signs + z) (faults + r) (getD words (2 * i) 0) (i + 1)
+  gapped-at-one z r h sign gap =
+      let there : getD words (2 * i) 0 ≡ getD (laidOut words .leaps) i noLeap .month = sym (ap (λ (l : Leap). l .month) (laid-leap words i h) ∙ month-in-place words i (omega arith)) in
+      record {
+        gapped = gapped-one (laidOut words) laid-room faults last i (p .gapped) (getD words (2 * i) 0) r (omega (arith, laid-length words)) there gap;
+        signed = signs-one words i ∙ (ap₂ (λ x y. x && y) (p .signed) (sym (sign .0)) ∙ sym (eqb-sum signs z));
+        few = omega (arith, p .few, sign .1);
+      }
 
-pub too-late : (s : Schedule) → s .count ≤ maxLeaps → endDay < s .expiry → wellFormed s ≡ false
-too-late s room h = rw (le-leb (s .count) maxLeaps room, lt-leb (s .expiry) endDay h)
+  -- after the last leap
+  pub gapped-at-all : countWord words ≤ i → (r : ℕ) → eqb r 0 ≡ expiryFits last (expiryWord words)
+      → eqb (signs + (faults + r)) 0 ≡ (signsFit words (countWord words) && gapsFit 0 (laidOut words .leaps) (expiryWord words))
+  gapped-at-all h r e =
+      let place : i ≡ countWord words = omega (arith, p .gapped .place, laid-length words) in
+      eqb-sum signs (faults + r)
+      ∙ ap₂ (λ x y. x && y) (sym (rw place at (p .signed))) (sym (gapped-all (laidOut words) laid-room faults last i (p .gapped) (omega (arith, laid-length words)) r e))

@@ -5,14 +5,12 @@ use mathlib.Core.Bool.{true, false, and-eq-true-iff, _&&_}
 use mathlib.Core.List.{List, [], _∷_}
 use Prim.Native.Nat.{ℕ, _+_, _-_, _≤_, _<_}
 use native.Mathlib.Omega.{arith}
-use lib.ListN.{drop}
+use lib.ListN.{length}
 use lib.Dec.{ltb, leb}
-use borrow.Author.Tests.{ltb-true, leb-true}
-use Rattle.schedule.specs.declared.Leap.{Leap}
-use Rattle.schedule.specs.declared.Schedule.{Schedule}
+use borrow.Author.Tests.{ltb-true, leb-true, le-leb}
 use Rattle.calendar.specs.Calendar as calendar
 use Rattle.calendar.proofs.Laws.{start-lt}
-use Rattle.schedule.specs.Schedule.{monthStart, endDay, blankSchedule, leapsOf, gapFits, expiryFits, gapsFit, allUnused, wellFormed}
+use Rattle.schedule.specs.Schedule.{Leap, Schedule, monthStart, endDay, blankSchedule, gapFits, expiryFits, gapsFit, wellFormed}
 
 -- a gap that fits
 pub fits-lt : (a b : ℕ) → gapFits a b ≡ true → a < b
@@ -51,17 +49,18 @@ before-end (l ∷ ls) from expiry f =
 
 -- the parts of a well-formed schedule
 pub record Parts (s : Schedule) : Type 0 where
-  pub room : s .count ≤ 256
+  pub room : length (s .leaps) ≤ 256
   pub end : s .expiry ≤ endDay
-  pub gaps : gapsFit 0 (leapsOf s) (s .expiry) ≡ true
-  pub rest : allUnused (drop (s .count) (s .leaps)) ≡ true
+  pub gaps : gapsFit 0 (s .leaps) (s .expiry) ≡ true
 
 pub parts : (s : Schedule) → wellFormed s ≡ true → Parts s
 parts s w =
-    let w₁ = and-eq-true-iff (leb (s .count) 256 && leb (s .expiry) endDay && gapsFit 0 (leapsOf s) (s .expiry)) (allUnused (drop (s .count) (s .leaps))) .0 w in
-    let w₂ = and-eq-true-iff (leb (s .count) 256 && leb (s .expiry) endDay) (gapsFit 0 (leapsOf s) (s .expiry)) .0 (w₁ .0) in
-    let w₃ = and-eq-true-iff (leb (s .count) 256) (leb (s .expiry) endDay) .0 (w₂ .0) in
-    record { room = leb-true _ _ (w₃ .0); end = leb-true _ _ (w₃ .1); gaps = w₂ .1; rest = w₁ .1 }
+    let w₁ = and-eq-true-iff (leb (length (s .leaps)) 256 && leb (s .expiry) endDay) (gapsFit 0 (s .leaps) (s .expiry)) .0 w in
+    let w₂ = and-eq-true-iff (leb (length (s .leaps)) 256) (leb (s .expiry) endDay) .0 (w₁ .0) in
+    record { room = leb-true _ _ (w₂ .0); end = leb-true _ _ (w₂ .1); gaps = w₁ .1 }
+
+pub well-by : (s : Schedule) → length (s .leaps) ≤ 256 → s .expiry ≤ endDay → wellFormed s ≡ gapsFit 0 (s .leaps) (s .expiry)
+well-by s r e = rw (le-leb (length (s .leaps)) 256 r, le-leb (s .expiry) endDay e)
 
 -- the blank schedule is not well formed
 pub blank-refused : wellFormed blankSchedule ≡ false

@@ -1,26 +1,25 @@
 -- "Well formed" and "extends" in the paper's words and numbers, by the month of the expiry day, and by the further leaps of a longer list.
 -- Assumes nothing.
 use mathlib.Core.Path.{_≡_, refl, sym, ap, _∙_}
-use mathlib.Core.Bool.{true, false, true≢false}
+use mathlib.Core.Bool.{true, false}
 use mathlib.Core.List.{List, [], _∷_, _++_}
 use mathlib.Core.Logic.{_↔_}
 use Prim.Native.Nat.{ℕ, _+_, _-_, _≤_, _<_}
 use native.Mathlib.Omega.{arith}
-use lib.ListN.{getD, drop}
+use lib.ListN.{length, getD}
 use borrow.Author.Tests.{ltb-false, lt-ltb, le-ltb, leb-true, le-leb}
 use Rattle.calendar.specs.Calendar.{startsMonth}
 use Rattle.calendar.proofs.Laws.{start-from, start-lt, start-le, month-most, month-started, starts-month}
-use Rattle.schedule.specs.declared.Leap.{Leap}
-use Rattle.schedule.specs.declared.Schedule.{Schedule}
-use Rattle.schedule.specs.Schedule.{maxLeaps, monthStart, monthOf, leapsOf, isExpired, gapsFit, lastLeap, roundedDown, leavesGap, allUnused, wellFormed}
-use Rattle.schedule.specs.WordLayout.{standForLeaps, meant}
+use Rattle.schedule.specs.Schedule.{Leap, Schedule, monthStart, monthOf, isExpired, gapsFit, lastLeap, roundedDown, leavesGap, wellFormed}
+use Rattle.schedule.specs.WordLayout.{meant}
 use Rattle.schedule.specs.Extends.{below, Extends}
 use Rattle.schedule.proofs.Cases.{by-bool}
 use Rattle.schedule.proofs.Expired.{is-expired, not-expired, expired-from}
-use Rattle.schedule.proofs.Gaps.{fits-lt, fits-le, expiry-after, expiry-within, last-fits, first, later, before-end, parts, blank-refused}
+use Rattle.schedule.proofs.Gaps.{fits-lt, fits-le, expiry-after, expiry-within, last-fits, first, later, before-end, parts}
 use Rattle.schedule.proofs.Extension.{below-none}
 use Rattle.schedule.proofs.ByNumber.{by-number, reached}
 use Rattle.schedule.proofs.Rounded.{last-before}
+use Rattle.schedule.proofs.Meant.{expiry-is}
 
 -- ---- well formed
 
@@ -30,14 +29,13 @@ Rise from [] = Unit {0}
 Rise from (l ∷ ls) = (from < l .month) × (l .month ≤ from + 999) × Rise (l .month) ls
 
 -- at most 256 leaps, whose months rise by 1 to 999 from month 0 on; an expiry later than the first day of the last leap's month (of month 0 if there
--- is none), at most 999 months after it by month number, and at most 114366; and the other places unused
+-- is none), at most 999 months after it by month number, and at most 114366
 pub record WellFormed (s : Schedule) : Type 0 where
-  pub few : s .count ≤ 256
-  pub rise : Rise 0 (leapsOf s)
-  pub after : monthStart (lastLeap 0 (leapsOf s)) < s .expiry
-  pub near : monthOf (s .expiry) - lastLeap 0 (leapsOf s) ≤ 999
+  pub few : length (s .leaps) ≤ 256
+  pub rise : Rise 0 (s .leaps)
+  pub after : monthStart (lastLeap 0 (s .leaps)) < s .expiry
+  pub near : monthOf (s .expiry) - lastLeap 0 (s .leaps) ≤ 999
   pub end : s .expiry ≤ 114_366
-  pub rest : allUnused (drop (s .count) (s .leaps)) ≡ true
 
 gaps-rise : (from : ℕ) (ls : List Leap) (e : ℕ) → gapsFit from ls e ≡ true → Rise from ls
 gaps-rise from [] e f = tt
@@ -67,32 +65,27 @@ well-formed-exactly s = (
       let p = parts s w in
       record {
         few = p .room;
-        rise = gaps-rise 0 (leapsOf s) (s .expiry) (p .gaps);
-        after = last-before (leapsOf s) 0 (s .expiry) (p .gaps);
-        near = gaps-near 0 (leapsOf s) (s .expiry) (p .gaps) (p .end);
+        rise = gaps-rise 0 (s .leaps) (s .expiry) (p .gaps);
+        after = last-before (s .leaps) 0 (s .expiry) (p .gaps);
+        near = gaps-near 0 (s .leaps) (s .expiry) (p .gaps) (p .end);
         end = p .end;
-        rest = p .rest;
       },
   λ f.
       simp (
-        le-leb (s .count) 256 (f .few),
+        le-leb (length (s .leaps)) 256 (f .few),
         le-leb (s .expiry) 114_366 (f .end),
-        gaps-fit 0 (leapsOf s) (s .expiry) (f .rise) (f .after) (f .near) (f .end),
-        f .rest,
+        gaps-fit 0 (s .leaps) (s .expiry) (f .rise) (f .after) (f .near) (f .end),
       ),
 )
 
 -- a schedule with a month's number in place of the expiry day is never well formed
 pub month-refused : (s : Schedule) → s .expiry ≤ 2400 → wellFormed s ≡ false
 month-refused s h =
-    by-bool (wellFormed s) (λ w. absurd (omega (arith, start-from 0, before-end (leapsOf s) 0 (s .expiry) (parts s w .gaps)))) (λ f. f)
+    by-bool (wellFormed s) (λ w. absurd (omega (arith, start-from 0, before-end (s .leaps) 0 (s .expiry) (parts s w .gaps)))) (λ f. f)
 
 -- words that mean a well-formed schedule have its expiry day as their last, word 513
 pub last-word : (words : List ℕ) → wellFormed (meant words) ≡ true → meant words .expiry ≡ getD words 513 0
-unfolding meant
-last-word words w =
-    by-bool (standForLeaps words maxLeaps) (λ t. rw t)
-    (λ f. absurd (true≢false (sym (rw f at w) ∙ blank-refused)))
+last-word words w = expiry-is words w
 
 -- so words with a month's number there, as an older leap_schedule has, are never well formed
 pub old-words : (words : List ℕ) → getD words 513 0 ≤ 2400 → wellFormed (meant words) ≡ false
@@ -106,18 +99,18 @@ pub rounded-is-last : (s : Schedule) → wellFormed s ≡ true
     → (roundedDown s .expiry ≤ s .expiry) × (startsMonth (roundedDown s .expiry) ≡ true) × ((m : ℕ) → monthStart m ≤ s .expiry → monthStart m ≤ roundedDown s .expiry)
 rounded-is-last s w =
     let p = parts s w in (
-      month-started (s .expiry) (omega (arith, start-from 0, before-end (leapsOf s) 0 (s .expiry) (p .gaps))),
+      month-started (s .expiry) (omega (arith, start-from 0, before-end (s .leaps) 0 (s .expiry) (p .gaps))),
       starts-month (month-most (s .expiry)),
       λ m h. start-le (reached (s .expiry) (p .end) m h),
     )
 
 -- of a well-formed schedule, rounding down leaves no gap exactly where the expiry day lies in the last leap's month (in month 0 if there is none)
-pub no-gap-exactly : (s : Schedule) → wellFormed s ≡ true → (leavesGap s ≡ false) ↔ (monthOf (s .expiry) ≡ lastLeap 0 (leapsOf s))
+pub no-gap-exactly : (s : Schedule) → wellFormed s ≡ true → (leavesGap s ≡ false) ↔ (monthOf (s .expiry) ≡ lastLeap 0 (s .leaps))
 no-gap-exactly s w =
     let p = parts s w in
-    let most = reached (s .expiry) (p .end) (lastLeap 0 (leapsOf s)) (omega (arith, last-before (leapsOf s) 0 (s .expiry) (p .gaps))) in (
-      λ f. omega (arith, ltb-false (lastLeap 0 (leapsOf s)) (monthOf (s .expiry)) f),
-      λ e. le-ltb (lastLeap 0 (leapsOf s)) (monthOf (s .expiry)) (omega arith),
+    let most = reached (s .expiry) (p .end) (lastLeap 0 (s .leaps)) (omega (arith, last-before (s .leaps) 0 (s .expiry) (p .gaps))) in (
+      λ f. omega (arith, ltb-false (lastLeap 0 (s .leaps)) (monthOf (s .expiry)) f),
+      λ e. le-ltb (lastLeap 0 (s .leaps)) (monthOf (s .expiry)) (omega arith),
     )
 
 -- ---- extends
@@ -130,12 +123,12 @@ AllFrom day (l ∷ ls) = (day ≤ monthStart (l .month)) × AllFrom day ls
 -- the longer list has the leaps of the shorter one, then only leaps in months that start on the shorter one's expiry day or later; its expiry is no
 -- earlier
 pub record ExtendsBy (longer shorter : Schedule) (further : List Leap) : Type 0 where
-  pub same : leapsOf longer ≡ leapsOf shorter ++ further
+  pub same : longer .leaps ≡ shorter .leaps ++ further
   pub from : AllFrom (shorter .expiry) further
   pub later : shorter .expiry ≤ longer .expiry
 
 -- leaps after a month that starts on the day or later
-rising-from : (day from : ℕ) (ls : List Leap) (e : ℕ) → gapsFit from ls e ≡ true → day ≤ monthStart from → AllFrom day ls
+pub rising-from : (day from : ℕ) (ls : List Leap) (e : ℕ) → gapsFit from ls e ≡ true → day ≤ monthStart from → AllFrom day ls
 rising-from day from [] e f h = tt
 rising-from day from (l ∷ ls) e f h =
     let g = start-lt (fits-lt from (l .month) (first from l ls e f)) in
@@ -176,11 +169,11 @@ pub extends-exactly : (longer shorter : Schedule) → wellFormed longer ≡ true
     → Extends longer shorter ↔ ((further : List Leap) × ExtendsBy longer shorter further)
 extends-exactly l s w w′ = (
   λ x.
-      let p = part (s .expiry) 0 (leapsOf l) (l .expiry) (parts l w .gaps) in
+      let p = part (s .expiry) 0 (l .leaps) (l .expiry) (parts l w .gaps) in
       (p .further, record { same = p .whole ∙ ap (λ (xs : List Leap). xs ++ p .further) (x .same); from = p .from; later = x .later }),
   λ x.
       record {
-        same = ap (below (s .expiry)) (x .1 .same) ∙ below-first (s .expiry) 0 (leapsOf s) (x .0) (parts s w′ .gaps) (x .1 .from);
+        same = ap (below (s .expiry)) (x .1 .same) ∙ below-first (s .expiry) 0 (s .leaps) (x .0) (parts s w′ .gaps) (x .1 .from);
         later = x .1 .later;
       },
 )

@@ -1,22 +1,16 @@
 -- Extension orders lists: it is transitive, lists with a common extension are comparable, and lists that extend each other are equal.
 -- Assumes nothing.
-use mathlib.Core.Path.{_≡_, refl, sym, ap, ap₂, _∙_}
+use mathlib.Core.Path.{_≡_, refl, sym, ap, _∙_}
 use mathlib.Core.Bool.{true, cond}
 use mathlib.Core.List.{List, [], _∷_}
 use mathlib.Core.Logic.{_⊎_, inl, inr}
 use Prim.Native.Nat.{ℕ, _≤_}
 use native.Mathlib.Omega.{arith}
 use native.Mathlib.Decide.{decLe}
-use lib.ListN.{length}
-use Rattle.schedule.specs.declared.Leap.{Leap}
-use Rattle.schedule.specs.declared.Schedule.{Schedule}
-use Rattle.schedule.specs.declared.Reading.{Reading}
-use Rattle.schedule.specs.Schedule.{blankSchedule, leapsOf, maxLeaps, isExpired, wellFormed}
-use Rattle.schedule.specs.Answers.{accepted}
+use Rattle.schedule.specs.Schedule.{Leap, Schedule, isExpired, wellFormed}
 use Rattle.schedule.specs.Extends.{below, Extends}
 use Rattle.schedule.proofs.Cases.{by-bool}
 use Rattle.schedule.proofs.Expired.{is-expired, expired-from}
-use Rattle.schedule.proofs.Adds.{adds, made-again}
 use Rattle.schedule.proofs.Extension.{extends-itself}
 
 -- the leaps below an expiry, of those below a later one
@@ -32,7 +26,7 @@ below-below m n (l ∷ ls) h =
 pub extends-on : (r a b : Schedule) → Extends r a → Extends a b → Extends r b
 extends-on r a b p q =
     record {
-      same = sym (below-below (b .expiry) (a .expiry) (leapsOf r) (q .later)) ∙ (ap (below (b .expiry)) (p .same) ∙ q .same);
+      same = sym (below-below (b .expiry) (a .expiry) (r .leaps) (q .later)) ∙ (ap (below (b .expiry)) (p .same) ∙ q .same);
       later = omega (arith, p .later, q .later);
     }
 
@@ -40,7 +34,7 @@ extends-on r a b p q =
 shared : (r a b : Schedule) → Extends r a → Extends r b → b .expiry ≤ a .expiry → Extends a b
 shared r a b p q h =
     record {
-      same = ap (below (b .expiry)) (sym (p .same)) ∙ (below-below (b .expiry) (a .expiry) (leapsOf r) h ∙ q .same);
+      same = ap (below (b .expiry)) (sym (p .same)) ∙ (below-below (b .expiry) (a .expiry) (r .leaps) h ∙ q .same);
       later = h;
     }
 
@@ -52,12 +46,9 @@ comparable r a b p q =
       | no h ↦ inr (shared r b a q p (omega arith))
     ]
 
--- well-formed schedules (with 256 places, as every schedule of the code has) that extend each other are equal
-pub both-ways : (a b : Schedule) → length (a .leaps) ≡ maxLeaps → length (b .leaps) ≡ maxLeaps → wellFormed a ≡ true → wellFormed b ≡ true
-    → Extends a b → Extends b a → a ≡ b
-both-ways a b full full′ w w′ p q =
+-- well-formed schedules that extend each other are equal
+pub both-ways : (a b : Schedule) → wellFormed a ≡ true → Extends a b → Extends b a → a ≡ b
+both-ways a b w p q =
     let e : a .expiry ≡ b .expiry = omega (arith, p .later, q .later) in
-    let same : leapsOf a ≡ leapsOf b = sym (extends-itself a w .same) ∙ (ap (λ (m : ℕ). below m (leapsOf a)) e ∙ p .same) in
-    let made : accepted (adds blankSchedule (leapsOf a)) (a .expiry) ≡ accepted (adds blankSchedule (leapsOf b)) (b .expiry)
-    = ap₂ (λ (ls : List Leap) (m : ℕ). accepted (adds blankSchedule ls) m) same e in
-    ap (λ (r : Reading). r .schedule) (sym (made-again a full w) ∙ (made ∙ made-again b full′ w′))
+    let same : a .leaps ≡ b .leaps = sym (extends-itself a w .same) ∙ (ap (λ (m : ℕ). below m (a .leaps)) e ∙ p .same) in
+    λ i. record { leaps = same i; expiry = e i }

@@ -6,14 +6,11 @@ use mathlib.Core.List.{List, [], _∷_}
 use Prim.Native.Nat.{ℕ, suc, _+_, _-_, _≤_, _<_}
 use native.Mathlib.Decide.{decLt}
 use native.Mathlib.Omega.{arith}
-use lib.ListN.{length, getD, drop, length-take, drop-of-length-le}
-use lib.Seq.{getD-take}
+use lib.ListN.{length, getD, drop, drop-of-length-le}
 use borrow.Author.Tests.{ltb-true, lt-ltb, le-leb}
 use Rattle.calendar.specs.Calendar.{firstDay, endDay, monthStart, monthOf, startsMonth}
 use Rattle.calendar.proofs.Laws.{start-zero, start-le, start-lt, first-of, month-started}
-use Rattle.schedule.specs.declared.Leap.{Leap}
-use Rattle.schedule.specs.declared.Schedule.{Schedule}
-use Rattle.schedule.specs.Schedule.{maxGap, noLeap, leapsOf, gapFits, gapsFit, lastLeap, roundedDown, leavesGap, wellFormed}
+use Rattle.schedule.specs.Schedule.{Leap, Schedule, maxGap, noLeap, gapFits, gapsFit, lastLeap, roundedDown, leavesGap, wellFormed}
 use Rattle.schedule.specs.Extends.{Extends}
 use Rattle.schedule.proofs.Extension.{all-below}
 use Rattle.schedule.proofs.ByNumber.{within-number}
@@ -57,13 +54,13 @@ last-before [] from expiry f = expiry-after from expiry (last-fits from expiry f
 last-before (l ∷ ls) from expiry f = last-before ls (l .month) expiry (later from l ls expiry f)
 
 -- where rounding leaves a gap, all gaps of a well-formed schedule are 1 to 999 months
-pub rounded-gaps : (s : Schedule) → wellFormed s ≡ true → leavesGap s ≡ true → gapsTo 0 (leapsOf s) (monthOf (s .expiry)) ≡ true
-rounded-gaps s w g = rounded-fits (leapsOf s) 0 (s .expiry) (parts s w .gaps) (ltb-true (lastLeap 0 (leapsOf s)) (monthOf (s .expiry)) g)
+pub rounded-gaps : (s : Schedule) → wellFormed s ≡ true → leavesGap s ≡ true → gapsTo 0 (s .leaps) (monthOf (s .expiry)) ≡ true
+rounded-gaps s w g = rounded-fits (s .leaps) 0 (s .expiry) (parts s w .gaps) (ltb-true (lastLeap 0 (s .leaps)) (monthOf (s .expiry)) g)
 
 -- the last gap of what is left
-pub last-to : (s : Schedule) (i from end : ℕ) → length (leapsOf s) ≤ i → gapsTo from (drop i (leapsOf s)) end ≡ gapFits from end
+pub last-to : (s : Schedule) (i from end : ℕ) → length (s .leaps) ≤ i → gapsTo from (drop i (s .leaps)) end ≡ gapFits from end
 unfolding gapsTo
-last-to s i from end h = rw (drop-of-length-le (leapsOf s) h)
+last-to s i from end h = rw (drop-of-length-le (s .leaps) h)
 
 -- such a list expires on the first day of its last month
 to-days : (ls : List Leap) (from end : ℕ) → gapsTo from ls end ≡ true → gapsFit from ls (monthStart end) ≡ true
@@ -78,7 +75,7 @@ to-days (l ∷ ls) from end f =
 
 module _ (s : Schedule) (w : wellFormed s ≡ true) (g : leavesGap s ≡ true) where
   from-first : firstDay ≤ s .expiry
-  from-first = omega (arith, start-zero, before-end (leapsOf s) 0 (s .expiry) (parts s w .gaps))
+  from-first = omega (arith, start-zero, before-end (s .leaps) 0 (s .expiry) (parts s w .gaps))
 
   earlier : monthStart (monthOf (s .expiry)) ≤ s .expiry
   earlier = month-started (s .expiry) from-first
@@ -88,23 +85,22 @@ module _ (s : Schedule) (w : wellFormed s ≡ true) (g : leavesGap s ≡ true) w
   rounded-well =
       let p = parts s w in
       simp (
-        le-leb (s .count) 256 (p .room),
+        le-leb (length (s .leaps)) 256 (p .room),
         le-leb (monthStart (monthOf (s .expiry))) endDay (omega (arith, earlier, p .end)),
-        to-days (leapsOf s) 0 (monthOf (s .expiry)) (rounded-gaps s w g),
-        p .rest,
+        to-days (s .leaps) 0 (monthOf (s .expiry)) (rounded-gaps s w g),
       )
 
   -- and the schedule extends it
   pub extends-rounded : Extends s (roundedDown s)
   extends-rounded =
-      record { same = all-below (leapsOf s) 0 (monthStart (monthOf (s .expiry))) (to-days (leapsOf s) 0 (monthOf (s .expiry)) (rounded-gaps s w g)); later = earlier }
+      record { same = all-below (s .leaps) 0 (monthStart (monthOf (s .expiry))) (to-days (s .leaps) 0 (monthOf (s .expiry)) (rounded-gaps s w g)); later = earlier }
 
 -- a schedule that expires on the first of a month is its own rounding, and leaves a gap
 pub rounds-itself : (s : Schedule) → startsMonth (s .expiry) ≡ true → roundedDown s ≡ s
 rounds-itself s m = rw (first-of m)
 
 pub first-leaves-gap : (s : Schedule) → wellFormed s ≡ true → startsMonth (s .expiry) ≡ true → leavesGap s ≡ true
-first-leaves-gap s w m = lt-ltb (lastLeap 0 (leapsOf s)) (monthOf (s .expiry)) (later-month (lastLeap 0 (leapsOf s)) (monthOf (s .expiry)) (omega (arith, first-of m, last-before (leapsOf s) 0 (s .expiry) (parts s w .gaps))))
+first-leaves-gap s w m = lt-ltb (lastLeap 0 (s .leaps)) (monthOf (s .expiry)) (later-month (lastLeap 0 (s .leaps)) (monthOf (s .expiry)) (omega (arith, first-of m, last-before (s .leaps) 0 (s .expiry) (parts s w .gaps))))
   where
     later-month : (a b : ℕ) → monthStart a < monthStart b → a < b
     later-month a b h = elim (decLt a b) [ yes l ↦ l | no l ↦ let k : b ≤ a = omega arith in absurd (omega (arith, start-le k)) ]
@@ -126,11 +122,9 @@ unfolding lastLeap
 no-leap [] e = refl
 no-leap (l ∷ ls) e = absurd (omega arith)
 
-module _ (s : Schedule) (n : ℕ) (e : n ≡ length (leapsOf s)) where
-  pub last-none : n ≡ 0 → lastLeap 0 (leapsOf s) ≡ 0
-  last-none z = no-leap (leapsOf s) (omega arith)
+module _ (s : Schedule) (n : ℕ) (e : n ≡ length (s .leaps)) where
+  pub last-none : n ≡ 0 → lastLeap 0 (s .leaps) ≡ 0
+  last-none z = no-leap (s .leaps) (omega arith)
 
-  pub last-some : (i : ℕ) → i + 1 ≡ n → lastLeap 0 (leapsOf s) ≡ getD (s .leaps) i noLeap .month
-  last-some i z =
-      let h : i < s .count = omega (arith, length-take (s .count) (s .leaps)) in
-      last-by (leapsOf s) i 0 (omega arith) ∙ ap (λ l. l .month) (getD-take (s .count) (s .leaps) i noLeap h)
+  pub last-some : (i : ℕ) → i + 1 ≡ n → lastLeap 0 (s .leaps) ≡ getD (s .leaps) i noLeap .month
+  last-some i z = last-by (s .leaps) i 0 (omega arith)

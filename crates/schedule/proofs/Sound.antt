@@ -1,41 +1,33 @@
 -- Schedules that are made leap by leap from the blank one: what holds of them on the way, and that they are well formed at the end.
 -- Assumes nothing.
 use mathlib.Core.Path.{_≡_, refl, sym, ap, _∙_}
-use mathlib.Core.Bool.{true, and-eq-true-iff, _&&_}
+use mathlib.Core.Bool.{true}
 use mathlib.Core.List.{List, [], _∷_, _++_, append-assoc, append-nil}
-use Prim.Native.Nat.{ℕ, suc, _+_, _≤_, _<_}
-use native.Mathlib.Numerals.{add-one}
-use native.Mathlib.Nat.{add-sub-cancel-left, lt-suc-self}
+use Prim.Native.Nat.{ℕ, _+_, _≤_, _<_}
+use native.Mathlib.Nat.{add-sub-cancel-left}
 use native.Mathlib.Omega.{arith}
-use lib.ListN.{length, getD, drop, set, length-set}
-use lib.Seq.{drop-cons, take-suc-set, drop-set-lt}
+use lib.ListN.{length, length-append}
 use borrow.Author.Tests.{lt-ltb, le-leb}
 use Rattle.calendar.proofs.Laws.{start-lt, start-to, starts-month}
 use Rattle.calendar.specs.Calendar.{startsMonth}
 use Rattle.schedule.specs.declared.Sign.{Sign}
-use Rattle.schedule.specs.declared.Leap.{Leap}
-use Rattle.schedule.specs.declared.Schedule.{Schedule}
-use Rattle.schedule.specs.declared.Reading.{Reading}
-use Rattle.schedule.specs.Schedule.{monthStart, endDay, noLeap, blankSchedule, leapsOf, gapFits, expiryFits, gapsFit, isUnused, allUnused, wellFormed}
-use Rattle.schedule.specs.Answers.{withLeap, refusal, accepted}
+use Rattle.schedule.specs.Schedule.{Leap, Schedule, monthStart, endDay, blankSchedule, gapFits, expiryFits, gapsFit, wellFormed}
+use Rattle.schedule.specs.Answers.{Reading, withLeap, refusal, accepted}
 
--- a reading that is accepted has place 0 and a well-formed schedule that expires on the first of a month, and one that is refused the blank schedule; either has 256 places
+-- a reading that is accepted has place 0 and a well-formed schedule that expires on the first of a month, and one that is refused the blank schedule
 pub record Formed (r : Reading) : Type 0 where
-  pub full : length (r .schedule .leaps) ≡ 256
   pub formed : r .number ≡ 0 → wellFormed (r .schedule) ≡ true
   pub first : r .number ≡ 0 → startsMonth (r .schedule .expiry) ≡ true
   pub placed : r .number ≡ 0 → r .place ≡ 0
   pub blank : (r .number ≡ 0 → ⊥) → r .schedule ≡ blankSchedule
 
 pub never : (n p : ℕ) → 0 < n → Formed (refusal n p)
-never n p h = record { full = refl; formed = λ e. absurd (omega arith); first = λ e. absurd (omega arith); placed = λ e. absurd (omega arith); blank = λ z. refl }
+never n p h = record { formed = λ e. absurd (omega arith); first = λ e. absurd (omega arith); placed = λ e. absurd (omega arith); blank = λ z. refl }
 
 -- what holds of the schedule so far: its leaps end at the month `total`
 pub record Sound (total : ℕ) (s : Schedule) : Type 0 where
-  full : length (s .leaps) ≡ 256
-  room : s .count ≤ 256
-  gaps : (more : List Leap) (expiry : ℕ) → gapsFit 0 (leapsOf s ++ more) expiry ≡ gapsFit total more expiry
-  rest : allUnused (drop (s .count) (s .leaps)) ≡ true
+  room : length (s .leaps) ≤ 256
+  gaps : (more : List Leap) (expiry : ℕ) → gapsFit 0 (s .leaps ++ more) expiry ≡ gapsFit total more expiry
 
 -- a gap of 1 to 999 fits
 fits : (total gap : ℕ) → 0 < gap → gap ≤ 999 → gapFits total (total + gap) ≡ true
@@ -57,44 +49,27 @@ last-fits : (from expiry : ℕ) → gapsFit from [] expiry ≡ expiryFits from e
 unfolding gapsFit
 last-fits from expiry = refl
 
-module _ (s : Schedule) (inside : s .count < length (s .leaps)) (m : ℕ) (k : Sign) where
-  pub leaps-with : leapsOf (withLeap s m k) ≡ leapsOf s ++ (record { month = m; sign = k } ∷ [])
-  leaps-with = rw (add-one, take-suc-set (s .leaps) (s .count) (record { month = m; sign = k }) inside)
-
-  rest-with : allUnused (drop (s .count) (s .leaps)) ≡ true → allUnused (drop (s .count + 1) (set (s .leaps) (s .count) (record { month = m; sign = k }))) ≡ true
-  unfolding allUnused
-  rest-with r =
-      let u : (isUnused (getD (s .leaps) (s .count) noLeap) && allUnused (drop (suc (s .count)) (s .leaps))) ≡ true = rw (drop-cons (s .leaps) (s .count) noLeap inside) at r in
-      rw (add-one, drop-set-lt (suc (s .count)) (s .leaps) (s .count) (record { month = m; sign = k }) (lt-suc-self (s .count)))
-      (and-eq-true-iff (isUnused (getD (s .leaps) (s .count) noLeap)) (allUnused (drop (suc (s .count)) (s .leaps))) .0 u .1)
-
-pub sound-leap : (total gap : ℕ) (s : Schedule) (k : Sign) → 0 < gap → gap ≤ 999 → s .count < 256 → Sound total s → Sound (total + gap) (withLeap s (total + gap) k)
+pub sound-leap : (total gap : ℕ) (s : Schedule) (k : Sign) → 0 < gap → gap ≤ 999 → length (s .leaps) < 256 → Sound total s → Sound (total + gap) (withLeap s (total + gap) k)
 sound-leap total gap s k p q h d =
-    let inside : s .count < length (s .leaps) = omega (arith, d .full) in
+    let l : Leap = record { month = total + gap; sign = k } in
     record {
-      full = length-set (s .leaps) (s .count) _ ∙ d .full;
-      room = omega arith;
+      room = omega (arith, length-append (s .leaps) (l ∷ []));
       gaps = λ more e.
-          let l : Leap = record { month = total + gap; sign = k } in
-          ap (λ (ls : List Leap). gapsFit 0 ls e) (ap (λ (ls : List Leap). ls ++ more) (leaps-with s inside (total + gap) k) ∙ append-assoc (leapsOf s) (l ∷ []) more)
-          ∙ (d .gaps (l ∷ more) e ∙ next-fits total l more e (fits total gap p q));
-      rest = rest-with s inside (total + gap) k (d .rest);
+          ap (λ (ls : List Leap). gapsFit 0 ls e) (append-assoc (s .leaps) (l ∷ []) more) ∙ (d .gaps (l ∷ more) e ∙ next-fits total l more e (fits total gap p q));
     }
 
 pub sound-end : (total gap : ℕ) (s : Schedule) → 0 < gap → gap ≤ 999 → total + gap ≤ 2400 → Sound total s → Formed (accepted s (monthStart (total + gap)))
 sound-end total gap s p q h d =
     record {
-      full = d .full;
       formed = λ e.
-          let z : gapsFit 0 (leapsOf s) (monthStart (total + gap)) ≡ true =
-          ap (λ (ls : List Leap). gapsFit 0 ls (monthStart (total + gap))) (sym (append-nil (leapsOf s)))
+          let z : gapsFit 0 (s .leaps) (monthStart (total + gap)) ≡ true =
+          ap (λ (ls : List Leap). gapsFit 0 ls (monthStart (total + gap))) (sym (append-nil (s .leaps)))
           ∙ (d .gaps [] (monthStart (total + gap)) ∙ (last-fits total (monthStart (total + gap)) ∙ expiry-fits total gap p q)) in
-          simp (le-leb (s .count) 256 (d .room), le-leb (monthStart (total + gap)) endDay (start-to h), z, d .rest);
+          simp (le-leb (length (s .leaps)) 256 (d .room), le-leb (monthStart (total + gap)) endDay (start-to h), z);
       first = λ e. starts-month h;
       placed = λ e. refl;
       blank = λ z. absurd (z refl);
     }
 
 pub blank-sound : Sound 0 blankSchedule
-unfolding gapsFit allUnused
-blank-sound = record { full = refl; room = omega arith; gaps = λ more e. refl; rest = refl }
+blank-sound = record { room = omega arith; gaps = λ more e. refl }

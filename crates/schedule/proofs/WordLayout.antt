@@ -1,22 +1,20 @@
--- The months of a well-formed schedule, and when words stand for the schedule that they lay out.
+-- The words of a schedule, place by place, and the schedule that words mean.
 -- Assumes nothing.
 use mathlib.Core.Path.{_≡_, refl, sym, ap, _∙_}
-use mathlib.Core.Bool.{Bool, true, false, _&&_, and-eq-true-iff, and-false, true≢false}
-use mathlib.Core.Logic.{⊎-elim}
+use mathlib.Core.Bool.{true, false, and-eq-true-iff, true≢false, cond}
 use mathlib.Core.List.{List, [], _∷_, _++_}
-use Prim.Native.Nat.{ℕ, zero, suc, _+_, _-_, _≤_, _<_}
-use native.Mathlib.Nat.{not-suc-le-zero, le-of-suc-le-suc, eq-or-lt-of-le}
-use native.Mathlib.Numerals.{add-one}
+use Prim.Native.Nat.{ℕ, zero, suc, _+_, _-_, _*_, _/_, _%_, _≤_, _<_}
+use native.Mathlib.Nat.{not-suc-le-zero, le-of-suc-le-suc}
 use native.Mathlib.Decide.{decLt}
 use native.Mathlib.Omega.{arith}
-use lib.Dec.{ltb, eqb}
-use lib.ListN.{length, getD, drop, length-append}
-use lib.Seq.{getD-take, getD-drop, length-take-le, take-at, getD-at}
-use borrow.Author.Tests.{ltb-true, ltb-false, lt-ltb, eqb-true}
-use Rattle.schedule.specs.declared.Leap.{Leap}
-use Rattle.schedule.specs.declared.Schedule.{Schedule}
-use Rattle.schedule.specs.Schedule.{monthStart, endDay, maxLeaps, noLeap, blankSchedule, leapsOf, gapsFit, isPositive, isUnused, allUnused, wellFormed}
-use Rattle.schedule.specs.WordLayout.{monthWord, signWord, signOf, countWord, standsForLeap, standForLeaps, signsFit, leapAt, leapsAt, laidOut, meant}
+use lib.Dec.{eqb}
+use lib.ListN.{length, getD, take, drop, replicate, length-append, length-replicate, length-take}
+use lib.Seq.{getD-take, getD-drop, getD-append-add, ext-getD}
+use borrow.Author.Tests.{eqb-true, eq-eqb}
+use Rattle.schedule.specs.declared.Sign.{Sign}
+use Rattle.schedule.specs.declared.Sign.the-variants.{Positive, Negative}
+use Rattle.schedule.specs.Schedule.{Leap, Schedule, monthStart, endDay, noLeap, blankSchedule, gapsFit, wellFormed}
+use Rattle.schedule.specs.WordLayout.{countWord, expiryWord, monthWord, signWord, signOf, leapBy, leapAt, leapsIn, laidOut, sameWords, meant, wordOfSign, leapWords, zeroes, wordsOf}
 use Rattle.calendar.proofs.Laws.{start-last, start-lt}
 use Rattle.schedule.proofs.Cases.{by-bool}
 use Rattle.schedule.proofs.Gaps.{later, before-end, parts, blank-refused}
@@ -25,161 +23,163 @@ use Rattle.schedule.proofs.Gaps.{later, before-end, parts, blank-refuse
 pub within : (m : ℕ) → monthStart m ≤ endDay → m ≤ 2400
 within m h = elim (decLt 2400 m) [ yes l ↦ absurd (omega (arith, start-last, start-lt l)) | no l ↦ omega arith ]
 
--- months in use, and not in use
-used-month : (ls : List Leap) (from expiry : ℕ) → gapsFit from ls expiry ≡ true → expiry ≤ endDay → (i : ℕ) → i < length ls → getD ls i noLeap .month ≤ 2400
-used-month [] from expiry f e i h = absurd (not-suc-le-zero h)
-used-month (l ∷ ls) from expiry f e zero h = within (l .month) (omega (arith, before-end ls (l .month) expiry (later from l ls expiry f)))
-used-month (l ∷ ls) from expiry f e (suc i) h = used-month ls (l .month) expiry (later from l ls expiry f) e i (le-of-suc-le-suc h)
+used-month : (ls : List Leap) (from expiry : ℕ) → gapsFit from ls expiry ≡ true → expiry ≤ endDay → (i : ℕ) → getD ls i noLeap .month ≤ 2400
+used-month [] from expiry f e i = omega arith
+used-month (l ∷ ls) from expiry f e zero = within (l .month) (omega (arith, before-end ls (l .month) expiry (later from l ls expiry f)))
+used-month (l ∷ ls) from expiry f e (suc i) = used-month ls (l .month) expiry (later from l ls expiry f) e i
 
-unused-month : (ls : List Leap) → allUnused ls ≡ true → (i : ℕ) → getD ls i noLeap .month ≡ 0
-unfolding allUnused
-unused-month [] u i = refl
-unused-month (l ∷ ls) u zero =
-    eqb-true (l .month) 0 (and-eq-true-iff _ (isPositive (l .sign)) .0 (and-eq-true-iff (isUnused l) (allUnused ls) .0 u .0) .0)
-unused-month (l ∷ ls) u (suc i) = unused-month ls (and-eq-true-iff (isUnused l) (allUnused ls) .0 u .1) i
+-- every month of a well-formed schedule is at most 2400
+pub small-month : (s : Schedule) → wellFormed s ≡ true → (i : ℕ) → getD (s .leaps) i noLeap .month ≤ 2400
+small-month s w i = used-month (s .leaps) 0 (s .expiry) (parts s w .gaps) (parts s w .end) i
 
-unused-sign : (ls : List Leap) → allUnused ls ≡ true → (i : ℕ) → isPositive (getD ls i noLeap .sign) ≡ true
-unfolding allUnused
-unused-sign [] u i = refl
-unused-sign (l ∷ ls) u zero =
-    and-eq-true-iff (eqb (l .month) 0) (isPositive (l .sign)) .0 (and-eq-true-iff (isUnused l) (allUnused ls) .0 u .0) .1
-unused-sign (l ∷ ls) u (suc i) = unused-sign ls (and-eq-true-iff (isUnused l) (allUnused ls) .0 u .1) i
+-- ---- lists of words
 
-module _ (s : Schedule) (full : length (s .leaps) ≡ 256) (w : wellFormed s ≡ true) where
-  -- every month of a well-formed schedule is at most 2400
-  pub small-month : (i : ℕ) → getD (s .leaps) i noLeap .month ≤ 2400
-  small-month i =
-      let p = parts s w in
-      let n : length (leapsOf s) ≡ s .count = length-take-le (s .count) (s .leaps) (omega (arith, p .room)) in
-      by-bool (ltb i (s .count))
-      (λ t.
-      let h = ltb-true i (s .count) t in
-      rw (getD-take (s .count) (s .leaps) i noLeap h) at (used-month (leapsOf s) 0 (s .expiry) (p .gaps) (p .end) i (omega arith)))
-      (λ t.
-      let h = ltb-false i (s .count) t in
-      let k : s .count + (i - s .count) ≡ i = omega arith in
-      let e = unused-month (drop (s .count) (s .leaps)) (p .rest) (i - s .count) in
-      let z : getD (s .leaps) i noLeap .month ≡ 0 = rw (getD-drop, k) at e in
-      omega arith)
+past-end : (xs : List ℕ) (i : ℕ) → length xs ≤ i → getD xs i 0 ≡ 0
+past-end [] i h = refl
+past-end (x ∷ xs) zero h = absurd (omega arith)
+past-end (x ∷ xs) (suc i) h = past-end xs i (le-of-suc-le-suc h)
 
-  -- and every sign of a place that is not in use is positive
-  pub plain-sign : (i : ℕ) → s .count ≤ i → isPositive (getD (s .leaps) i noLeap .sign) ≡ true
-  plain-sign i h =
-      let k : s .count + (i - s .count) ≡ i = omega arith in
-      let e = unused-sign (drop (s .count) (s .leaps)) (parts s w .rest) (i - s .count) in
-      rw (getD-drop, k) at e
+pub past-leaps : (ls : List Leap) (i : ℕ) → length ls ≤ i → getD ls i noLeap ≡ noLeap
+past-leaps [] i h = refl
+past-leaps (x ∷ xs) zero h = absurd (omega arith)
+past-leaps (x ∷ xs) (suc i) h = past-leaps xs i (le-of-suc-le-suc h)
 
--- ---- words that are laid out as a schedule
+among-zeroes : (n : ℕ) (rest : List ℕ) (i : ℕ) → i < n → getD (zeroes n ++ rest) i 0 ≡ 0
+among-zeroes zero rest i h = absurd (not-suc-le-zero h)
+among-zeroes (suc n) rest zero h = refl
+among-zeroes (suc n) rest (suc i) h = among-zeroes n rest i (le-of-suc-le-suc h)
 
--- a sign word that means a positive sign is 0
-sign-zero : (n : ℕ) → isPositive (signOf n) ≡ true → n < 2
-sign-zero n p = by-bool (eqb n 0) (λ z. omega (arith, eqb-true n 0 z)) (λ z. absurd (true≢false (sym p ∙ rw z)))
+after-zeroes : (n : ℕ) (rest : List ℕ) (k i : ℕ) → i ≡ n + k → getD (zeroes n ++ rest) i 0 ≡ getD rest k 0
+after-zeroes n rest k i e =
+    let l : length (zeroes n) + k ≡ i = omega (arith, length-replicate {A = ℕ} n 0) in
+    ap (λ (j : ℕ). getD (zeroes n ++ rest) j 0) (sym l) ∙ getD-append-add (zeroes n) rest k 0
+
+-- the same words, one by one
+pub same-each : (n : ℕ) (xs ys : List ℕ) → sameWords n xs ys ≡ true → (i : ℕ) → i < n → getD xs i 0 ≡ getD ys i 0
+unfolding sameWords
+same-each zero xs ys e i h = absurd (not-suc-le-zero h)
+same-each (suc n) xs ys e i h =
+    let both = and-eq-true-iff (eqb (getD xs n 0) (getD ys n 0)) (sameWords n xs ys) .0 e in
+    elim (decLt i n) [
+      | yes l ↦ same-each n xs ys (both .1) i l
+      | no l ↦ let z : i ≡ n = omega arith in rw z (eqb-true (getD xs n 0) (getD ys n 0) (both .0))
+    ]
+
+pub each-same : (n : ℕ) (xs ys : List ℕ) → ((i : ℕ) → i < n → getD xs i 0 ≡ getD ys i 0) → sameWords n xs ys ≡ true
+unfolding sameWords
+each-same zero xs ys f = refl
+each-same (suc n) xs ys f = simp (eq-eqb (getD xs n 0) (getD ys n 0) (f n (omega arith)), each-same n xs ys (λ i h. f i (omega arith)))
+
+-- ---- the words of a schedule, place by place
+
+pub sign-back : (g : Sign) → signOf (wordOfSign g) ≡ g
+sign-back Positive = refl
+sign-back Negative = refl
+
+sign-small : (g : Sign) → wordOfSign g < 2
+sign-small Positive = omega arith
+sign-small Negative = omega arith
+
+pub words-length : (ls : List Leap) → length (leapWords ls) ≡ 2 * length ls
+unfolding leapWords
+words-length [] = refl
+words-length (l ∷ ls) = omega (arith, words-length ls)
+
+-- the words of leap i, whatever follows the leaps
+module _ (rest : List ℕ) where
+  month-there : (ls : List Leap) (i : ℕ) → i < length ls → getD (leapWords ls ++ rest) (2 * i) 0 ≡ getD ls i noLeap .month
+  unfolding leapWords
+  month-there [] i h = absurd (not-suc-le-zero h)
+  month-there (l ∷ ls) zero h = refl
+  month-there (l ∷ ls) (suc i) h =
+      let k : 2 * suc i ≡ suc (suc (2 * i)) = omega arith in
+      rw k (month-there ls i (le-of-suc-le-suc h))
+
+  sign-there : (ls : List Leap) (i : ℕ) → i < length ls → getD (leapWords ls ++ rest) (2 * i + 1) 0 ≡ wordOfSign (getD ls i noLeap .sign)
+  unfolding leapWords
+  sign-there [] i h = absurd (not-suc-le-zero h)
+  sign-there (l ∷ ls) zero h = refl
+  sign-there (l ∷ ls) (suc i) h =
+      let k : 2 * suc i + 1 ≡ suc (suc (2 * i + 1)) = omega arith in
+      rw k (sign-there ls i (le-of-suc-le-suc h))
+
+  after-leaps : (ls : List Leap) (k n : ℕ) → n ≡ 2 * length ls + k → getD (leapWords ls ++ rest) n 0 ≡ getD rest k 0
+  after-leaps ls k n e =
+      let l : length (leapWords ls) + k ≡ n = omega (arith, words-length ls) in
+      ap (λ (j : ℕ). getD (leapWords ls ++ rest) j 0) (sym l) ∙ getD-append-add (leapWords ls) rest k 0
+
+module _ (s : Schedule) (room : length (s .leaps) ≤ 256) where
+  pub month-of-words : (i : ℕ) → i < length (s .leaps) → getD (wordsOf s) (2 * i) 0 ≡ getD (s .leaps) i noLeap .month
+  unfolding wordsOf
+  month-of-words i h = month-there _ (s .leaps) i h
+
+  pub sign-of-words : (i : ℕ) → i < length (s .leaps) → getD (wordsOf s) (2 * i + 1) 0 ≡ wordOfSign (getD (s .leaps) i noLeap .sign)
+  unfolding wordsOf
+  sign-of-words i h = sign-there _ (s .leaps) i h
+
+  pub unused-words : (k : ℕ) → 2 * length (s .leaps) ≤ k → k < 512 → getD (wordsOf s) k 0 ≡ 0
+  unfolding wordsOf
+  unused-words k a b =
+      after-leaps _ (s .leaps) (k - 2 * length (s .leaps)) k (omega arith)
+      ∙ among-zeroes (512 - 2 * length (s .leaps)) (length (s .leaps) ∷ s .expiry ∷ []) (k - 2 * length (s .leaps)) (omega arith)
+
+  last-words : (k j : ℕ) → k ≡ 512 + j → getD (wordsOf s) k 0 ≡ getD (length (s .leaps) ∷ s .expiry ∷ []) j 0
+  unfolding wordsOf
+  last-words k j e =
+      after-leaps _ (s .leaps) (512 - 2 * length (s .leaps) + j) k (omega arith)
+      ∙ after-zeroes (512 - 2 * length (s .leaps)) (length (s .leaps) ∷ s .expiry ∷ []) j (512 - 2 * length (s .leaps) + j) refl
+
+  pub count-of-words : getD (wordsOf s) 512 0 ≡ length (s .leaps)
+  count-of-words = last-words 512 0 (omega arith)
+
+  pub expiry-of-words : getD (wordsOf s) 513 0 ≡ s .expiry
+  expiry-of-words = last-words 513 1 (omega arith)
+
+  pub all-words : length (wordsOf s) ≡ 514
+  unfolding wordsOf
+  all-words =
+      let e : List ℕ = length (s .leaps) ∷ s .expiry ∷ [] in
+      omega (
+        arith,
+        length-append (leapWords (s .leaps)) (zeroes (512 - 2 * length (s .leaps)) ++ e),
+        length-append (zeroes (512 - 2 * length (s .leaps))) e,
+        words-length (s .leaps),
+        length-replicate {A = ℕ} (512 - 2 * length (s .leaps)) 0,
+      )
+
+-- ---- the leaps that words lay out
+
+pub leaps-length : (n : ℕ) (ws : List ℕ) → length (leapsIn n ws) ≡ n
+unfolding leapsIn
+leaps-length zero ws = refl
+leaps-length (suc n) ws = ap suc (leaps-length n (drop 2 ws))
+
+leap-there : (n : ℕ) (ws : List ℕ) (i : ℕ) → i < n → getD (leapsIn n ws) i noLeap ≡ leapBy (getD ws (2 * i) 0) (getD ws (2 * i + 1) 0)
+unfolding leapsIn
+leap-there zero ws i h = absurd (not-suc-le-zero h)
+leap-there (suc n) ws zero h = refl
+leap-there (suc n) ws (suc i) h =
+    let a : 2 + 2 * i ≡ 2 * suc i = omega arith in
+    let b : 2 + (2 * i + 1) ≡ 2 * suc i + 1 = omega arith in
+    leap-there n (drop 2 ws) i (le-of-suc-le-suc h) ∙ rw (getD-drop 2 ws (2 * i) 0, getD-drop 2 ws (2 * i + 1) 0, a, b)
 
 module _ (words : List ℕ) where
-  pub leaps-length : (n : ℕ) → length (leapsAt words n) ≡ n
-  unfolding leapsAt
-  leaps-length zero = refl
-  leaps-length (suc n) = rw (length-append (leapsAt words n) (leapAt words n ∷ [])) (omega (arith, leaps-length n))
+  -- the words of a place are words of the list
+  pub month-in-place : (i : ℕ) → i < 256 → monthWord words i ≡ getD words (2 * i) 0
+  month-in-place i h = getD-take 512 words (2 * i) 0 (omega arith)
 
-  -- the leap at a place
-  pub leap-there : (n i : ℕ) → i < n → getD (leapsAt words n) i noLeap ≡ leapAt words i
-  unfolding leapsAt
-  leap-there zero i h = absurd (not-suc-le-zero h)
-  leap-there (suc n) i h =
-      ⊎-elim (λ (e : i ≡ n). rw e (getD-at (leapsAt words n) (leapAt words n) [] noLeap n (leaps-length n)))
-      (λ (l : i < n).
-      sym (getD-take n (leapsAt words n ++ (leapAt words n ∷ [])) i noLeap l)
-      ∙ ap (λ (ls : List Leap). getD ls i noLeap) (take-at (leapsAt words n) (leapAt words n ∷ []) n (leaps-length n))
-      ∙ leap-there n i l)
-      (eq-or-lt-of-le (le-of-suc-le-suc h))
+  pub sign-in-place : (i : ℕ) → i < 256 → signWord words i ≡ getD words (2 * i + 1) 0
+  sign-in-place i h = getD-take 512 words (2 * i + 1) 0 (omega arith)
 
-  pub signs-none : signsFit words 0 ≡ true
-  unfolding signsFit
-  signs-none = refl
+  -- past the places they are 0
+  pub month-past : (i : ℕ) → 256 ≤ i → monthWord words i ≡ 0
+  month-past i h = past-end (take 512 words) (2 * i) (omega (arith, length-take 512 words))
 
-  pub signs-one : (i : ℕ) → signsFit words (i + 1) ≡ (signsFit words i && ltb (signWord words i) 2)
-  unfolding signsFit
-  signs-one i = rw (add-one i)
+  pub sign-past : (i : ℕ) → 256 ≤ i → signWord words i ≡ 0
+  sign-past i h = past-end (take 512 words) (2 * i + 1) (omega (arith, length-take 512 words))
 
-  sign-fits : (n i : ℕ) → i < n → signsFit words n ≡ true → signWord words i < 2
-  unfolding signsFit
-  sign-fits zero i h f = absurd (not-suc-le-zero h)
-  sign-fits (suc n) i h f =
-      let both = and-eq-true-iff (signsFit words n) (ltb (signWord words n) 2) .0 f in
-      ⊎-elim (λ (e : i ≡ n). rw e (ltb-true (signWord words n) 2 (both .1))) (λ (l : i < n). sign-fits n i l (both .0)) (eq-or-lt-of-le (le-of-suc-le-suc h))
+  pub laid-length : length (laidOut words .leaps) ≡ countWord words
+  laid-length = leaps-length (countWord words) (take 512 words)
 
-  -- leaps stand for leaps where their words do, one by one
-  stand-by : (n : ℕ) → ((i : ℕ) → i < n → standsForLeap words i ≡ true) → standForLeaps words n ≡ true
-  unfolding standForLeaps
-  stand-by zero f = refl
-  stand-by (suc n) f = simp (stand-by n (λ i h. f i (omega arith)), f n (omega arith))
-
-  -- and where they do, their sign words are 0 or 1
-  stands : (n i : ℕ) → i < n → standForLeaps words n ≡ true → ltb (signWord words i) 2 ≡ true
-  unfolding standForLeaps
-  stands zero i h e = absurd (not-suc-le-zero h)
-  stands (suc n) i h e =
-      let both = and-eq-true-iff (standForLeaps words n) (standsForLeap words n) .0 e in
-      ⊎-elim (λ (z : i ≡ n). rw z (and-eq-true-iff (ltb (monthWord words n) 65_536) (ltb (signWord words n) 2) .0 (both .1) .1))
-      (λ (l : i < n). stands n i l (both .0))
-      (eq-or-lt-of-le (le-of-suc-le-suc h))
-
-  signs-by : (n : ℕ) → n ≤ 256 → standForLeaps words 256 ≡ true → signsFit words n ≡ true
-  unfolding signsFit
-  signs-by zero h e = refl
-  signs-by (suc n) h e = simp (signs-by n (omega arith) e, stands 256 n h e)
-
-  -- a well-formed layout whose sign words are 0 or 1 is what the words mean
-  pub means-layout : wellFormed (laidOut words) ≡ true → signsFit words (countWord words) ≡ true → meant words ≡ laidOut words
-  unfolding meant
-  means-layout w f = simp (stand-by 256 each)
-    where
-      full : length (leapsAt words maxLeaps) ≡ 256
-      full = leaps-length 256
-
-      each : (i : ℕ) → i < 256 → standsForLeap words i ≡ true
-      each i h =
-          let there = leap-there 256 i h in
-          let month : monthWord words i ≤ 2400 = rw there at (small-month (laidOut words) full w i) in
-          let sign : signWord words i < 2 =
-          by-bool (ltb i (countWord words)) (λ t. sign-fits (countWord words) i (ltb-true i (countWord words) t) f)
-          (λ t. sign-zero (signWord words i) (rw there at (plain-sign (laidOut words) full w i (ltb-false i (countWord words) t)))) in
-          simp (lt-ltb (monthWord words i) 65_536 (omega arith), lt-ltb (signWord words i) 2 sign)
-
-  pub is-laid : standForLeaps words 256 ≡ true → meant words ≡ laidOut words
-  unfolding meant
-  is-laid e = simp e
-
-  pub is-blank : standForLeaps words 256 ≡ false → meant words ≡ blankSchedule
-  unfolding meant
-  is-blank e = simp e
-
-  -- words that mean a well-formed schedule mean the one laid out, and their sign words are 0 or 1
-  pub layout-meant : wellFormed (meant words) ≡ true → (meant words ≡ laidOut words) × (signsFit words (countWord words) ≡ true)
-  layout-meant w = by-bool (standForLeaps words 256) yes no
-    where
-      yes : standForLeaps words 256 ≡ true → (meant words ≡ laidOut words) × (signsFit words (countWord words) ≡ true)
-      yes e =
-          let is = is-laid e in
-          (is, signs-by (countWord words) (parts (laidOut words) (rw is at w) .room) e)
-
-      no : standForLeaps words 256 ≡ false → (meant words ≡ laidOut words) × (signsFit words (countWord words) ≡ true)
-      no e = absurd (true≢false (sym w ∙ (ap (λ (s : Schedule). wellFormed s) (is-blank e) ∙ blank-refused)))
-
-  -- words mean a well-formed schedule exactly when the one laid out is well formed and the sign words are 0 or 1
-  pub well-meant : (signsFit words (countWord words) && wellFormed (laidOut words)) ≡ wellFormed (meant words)
-  well-meant =
-      by-bool (wellFormed (meant words)) (λ w.
-      let m = layout-meant w in
-      let laid : wellFormed (laidOut words) ≡ true = rw (m .0) at w in
-      let both : (signsFit words (countWord words) && wellFormed (laidOut words)) ≡ true = simp (m .1, laid) in
-      both ∙ sym w)
-      (λ w.
-      by-bool (signsFit words (countWord words) && wellFormed (laidOut words))
-      (λ b.
-      let both = and-eq-true-iff (signsFit words (countWord words)) (wellFormed (laidOut words)) .0 b in
-      absurd (true≢false (sym (both .1) ∙ (sym (ap (λ (s : Schedule). wellFormed s) (means-layout (both .1) (both .0))) ∙ w))))
-      (λ b. b ∙ sym w))
-
-  pub not-meant : wellFormed (laidOut words) ≡ false → wellFormed (meant words) ≡ false
-  not-meant w = sym well-meant ∙ (ap (λ (b : Bool). signsFit words (countWord words) && b) w ∙ and-false (signsFit words (countWord words)))
+  pub laid-leap : (i : ℕ) → i < countWord words → getD (laidOut words .leaps) i noLeap ≡ leapAt words i
+  laid-leap i h = leap-there (countWord words) (take 512 words) i h

@@ -2,25 +2,22 @@
 -- Assumes nothing.
 use mathlib.Core.Path.{_≡_, refl}
 use mathlib.Core.Bool.{Bool, true, false}
-use mathlib.Core.List.{List, [], _∷_, _++_}
-use Prim.Native.Nat.{ℕ, _-_}
-use lib.ListN.{length, replicate}
+use mathlib.Core.List.{List, [], _∷_}
+use Prim.Native.Nat.{ℕ}
 use Rattle.calendar.specs.Calendar.{isLeapYear, monthLengths, daysInMonth, monthStart}
 use Rattle.schedule.specs.declared.Sign.the-variants.{Positive}
-use Rattle.schedule.specs.declared.Leap.{Leap}
-use Rattle.schedule.specs.declared.Schedule.{Schedule}
-use Rattle.schedule.specs.Schedule.{noLeap, gapsFit, allUnused, wellFormed}
+use Rattle.schedule.specs.Schedule.{Leap, Schedule, gapsFit, wellFormed}
 
 -- a row: months with a positive leap, an expiry day, and whether the schedule is well formed
 pub data Row : Type 0 where
   expires : List ℕ → ℕ → Bool → Row
 
-abbrev pub leapsIn : List ℕ → List Leap
-leapsIn [] = []
-leapsIn (m ∷ ms) = record { month = m; sign = Positive } ∷ leapsIn ms
+abbrev pub positive : List ℕ → List Leap
+positive [] = []
+positive (m ∷ ms) = record { month = m; sign = Positive } ∷ positive ms
 
 abbrev pub scheduleOf : List ℕ → ℕ → Schedule
-scheduleOf ms e = record { leaps = leapsIn ms ++ replicate (256 - length ms) noLeap; count = length ms; expiry = e }
+scheduleOf ms e = record { leaps = positive ms; expiry = e }
 
 abbrev pub SayAll : List Row → Type 0
 SayAll [] = Unit {0}
@@ -50,5 +47,5 @@ table =
 
 -- every row of the table holds of the definition
 pub worked : SayAll table
-unfolding isLeapYear monthLengths daysInMonth monthStart gapsFit allUnused
+unfolding isLeapYear monthLengths daysInMonth monthStart gapsFit
 worked = (refl, (refl, (refl, (refl, (refl, (refl, (refl, (refl, (refl, (refl, (refl, (refl, (refl, (refl, tt))))))))))))))

@@ -1,18 +1,22 @@
 -- What readers and writers answer, and what a reader hands over as words.
 -- Assumes nothing: these are definitions.
-use Prim.Native.Nat.{ℕ, _+_}
+use Prim.Native.Nat.{ℕ}
 use mathlib.Core.Path.{_≡_}
 use mathlib.Core.Bool.{_&&_, cond}
-use mathlib.Core.List.{List, _++_}
+use mathlib.Core.List.{List, [], _∷_, _++_}
 use lib.Dec.{leb, eqb}
-use lib.ListN.{length, drop, set}
+use lib.ListN.{length, drop}
 use Rattle.refusals.specs.Refusals.{outputShort, notWellFormed, noGap}
 use Rattle.schedule.specs.declared.Sign.{Sign}
-use Rattle.schedule.specs.declared.Schedule.{Schedule}
-use Rattle.schedule.specs.declared.Reading.{Reading}
 use Rattle.schedule.specs.declared.Writing.{Writing}
-use Rattle.schedule.specs.Schedule.{blankSchedule, leavesGap, wellFormed}
+use Rattle.schedule.specs.Schedule.{Schedule, blankSchedule, leavesGap, wellFormed}
 use Rattle.schedule.specs.WordLayout.{wordsOf}
+
+-- what a reader answers: a number, a place and a schedule
+pub record Reading : Type 0 where
+  pub number : ℕ
+  pub place : ℕ
+  pub schedule : Schedule
 
 -- a reader that refuses returns the number, the place and the blank schedule
 abbrev pub refusal : ℕ → ℕ → Reading
@@ -20,15 +24,15 @@ refusal n p = record { number = n; place = p; schedule = blankSchedule }
 
 -- a reader that accepts returns number 0, place 0 and the schedule: here the leaps read so far, and the expiry
 abbrev pub accepted : Schedule → ℕ → Reading
-accepted s expiry = record { number = 0; place = 0; schedule = record { leaps = s .leaps; count = s .count; expiry = expiry } }
+accepted s expiry = record { number = 0; place = 0; schedule = record { leaps = s .leaps; expiry = expiry } }
 
 -- an answer about the schedule that was read, or what is made of the number and the place of its refusal
 unfoldable pub byReading : {A : Type 0} → Reading → (ℕ → ℕ → A) → (Schedule → A) → A
 byReading r refuse f = cond (eqb (r .number) 0) (f (r .schedule)) (refuse (r .number) (r .place))
 
--- one leap more, in the first place that is not in use
+-- one leap more
 abbrev pub withLeap : Schedule → ℕ → Sign → Schedule
-withLeap s m g = record { leaps = set (s .leaps) (s .count) (record { month = m; sign = g }); count = s .count + 1; expiry = s .expiry }
+withLeap s m g = record { leaps = s .leaps ++ (record { month = m; sign = g } ∷ []); expiry = s .expiry }
 
 -- a reader hands over the reading: its number, the words of its schedule, and its place
 pub record HandsReading (reading : Reading) (number : ℕ) (words : List ℕ) (place : ℕ) : Type 0 where
@@ -47,6 +51,10 @@ fitting bytes room = cond (leb (length bytes) room) (record { number = 0; count 
 -- what the output then holds: the bytes and, beyond them, what it held; what it held where it has no room for them
 unfoldable pub fitted : List ℕ → List ℕ → List ℕ
 fitted bytes out = cond (leb (length bytes) (length out)) (bytes ++ drop (length bytes) out) out
+
+-- the number with which every writer refuses a schedule, whatever the output: 11, then 17; 0 where it can be written
+unfoldable pub unwritable : Schedule → ℕ
+unwritable s = cond (wellFormed s) (cond (leavesGap s) 0 noGap) notWellFormed
 
 -- what a writer answers whose list of a schedule is `bytes`: refusal 11, then 17, then 7, else the count of bytes
 unfoldable pub writing : Schedule → List ℕ → ℕ → Writing

@@ -1,5 +1,5 @@
 -- When one list extends another, as a statement and as a test that computes.
--- Of schedules that are not well formed the papers do not speak; the same words are used of them, over the places in use.
+-- Of schedules that are not well formed the papers do not speak; the same words are used of them.
 -- Assumes nothing: these are definitions.
 use Prim.Native.Nat.{ℕ, _≤_}
 use mathlib.Core.Path.{_≡_}
@@ -8,9 +8,7 @@ use mathlib.Core.List.{List, [], _∷_}
 use lib.Dec.{leb, eqb}
 use Rattle.schedule.specs.declared.Sign.{Sign}
 use Rattle.schedule.specs.declared.Sign.the-variants.{Positive, Negative}
-use Rattle.schedule.specs.declared.Leap.{Leap}
-use Rattle.schedule.specs.declared.Schedule.{Schedule}
-use Rattle.schedule.specs.Schedule.{leapsOf, isExpired}
+use Rattle.schedule.specs.Schedule.{Leap, Schedule, isExpired}
 
 -- the leaps below an expiry: in months that start before that day
 unfoldable pub below : ℕ → List Leap → List Leap
@@ -20,7 +18,7 @@ below expiry (l ∷ ls) = cond (isExpired expiry (l .month)) (below expiry ls) (
 -- "extends": the longer list's leaps in months that start before the shorter one's expiry day are the shorter one's leaps, all of them, equal in
 -- month and sign, and its own expiry is no earlier
 pub record Extends (longer shorter : Schedule) : Type 0 where
-  pub same : below (shorter .expiry) (leapsOf longer) ≡ leapsOf shorter
+  pub same : below (shorter .expiry) (longer .leaps) ≡ shorter .leaps
   pub later : shorter .expiry ≤ longer .expiry
 
 abbrev pub sameSign : Sign → Sign → Bool
@@ -42,4 +40,4 @@ sameLeaps (a ∷ xs) (b ∷ ys) = sameLeap a b && sameLeaps xs ys
 -- the test that means Extends
 abbrev pub extends : Schedule → Schedule → Bool
 extends longer shorter =
-    leb (shorter .expiry) (longer .expiry) && sameLeaps (below (shorter .expiry) (leapsOf longer)) (leapsOf shorter)
+    leb (shorter .expiry) (longer .expiry) && sameLeaps (below (shorter .expiry) (longer .leaps)) (shorter .leaps)

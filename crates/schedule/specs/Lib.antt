@@ -2,4 +2,4 @@ pub mod Schedule
 pub mod Extends
 pub mod WordLayout
 pub mod Answers
-pub mod Inner
+pub mod Private

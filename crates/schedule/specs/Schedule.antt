@@ -1,15 +1,23 @@
--- The schedule: its limits, the leaps in use, the blank schedule, and when a schedule is well formed.
+-- The schedule: its leaps and its expiry, its limits, the blank schedule, and when a schedule is well formed.
 -- Assumes nothing: these are definitions.
 use Prim.Native.Nat.{ℕ, _+_, _-_}
-use mathlib.Core.Bool.{Bool, true, false, _&&_}
+use mathlib.Core.Bool.{Bool, _&&_}
 use mathlib.Core.List.{List, [], _∷_}
-use lib.ListN.{take, drop, replicate}
-use lib.Dec.{ltb, leb, eqb}
+use lib.ListN.{length}
+use lib.Dec.{ltb, leb}
 pub use Rattle.calendar.specs.Calendar.{lastMonth, endDay, monthStart, monthOf}
 use Rattle.schedule.specs.declared.Sign.{Sign}
-use Rattle.schedule.specs.declared.Sign.the-variants.{Positive, Negative}
-use Rattle.schedule.specs.declared.Leap.{Leap}
-use Rattle.schedule.specs.declared.Schedule.{Schedule}
+use Rattle.schedule.specs.declared.Sign.the-variants.{Positive}
+
+-- a leap: the month at whose start it takes effect, and its sign
+pub record Leap : Type 0 where
+  pub month : ℕ
+  pub sign : Sign
+
+-- a schedule: its leaps, and the day (MJD) from which on nothing is known
+pub record Schedule : Type 0 where
+  pub leaps : List Leap
+  pub expiry : ℕ
 
 -- a schedule has at most 256 leaps
 abbrev pub maxLeaps : ℕ
@@ -19,17 +27,13 @@ maxLeaps = 256
 abbrev pub maxGap : ℕ
 maxGap = 999
 
--- an unused place holds month 0 and a positive sign
+-- no leap, as an unused place of the words has it: month 0 and a positive sign
 abbrev pub noLeap : Leap
 noLeap = record { month = 0; sign = Positive }
 
 -- "blank": the schedule with no leaps and expiry day 0
 abbrev pub blankSchedule : Schedule
-blankSchedule = record { leaps = replicate maxLeaps noLeap; count = 0; expiry = 0 }
-
--- the leaps in use: the first `count` places (all 256 where more are claimed, which is not well formed)
-abbrev pub leapsOf : Schedule → List Leap
-leapsOf s = take (s .count) (s .leaps)
+blankSchedule = record { leaps = []; expiry = 0 }
 
 -- a month is at or after an expiry: it starts on the expiry day or later, so that nothing is known of it
 unfoldable pub isExpired : ℕ → ℕ → Bool
@@ -60,29 +64,13 @@ expiryMonth s = monthOf (s .expiry)
 
 -- the schedule rounded down: it expires on the first day of that month
 abbrev pub roundedDown : Schedule → Schedule
-roundedDown s = record { leaps = s .leaps; count = s .count; expiry = monthStart (expiryMonth s) }
+roundedDown s = record { leaps = s .leaps; expiry = monthStart (expiryMonth s) }
 
 -- rounding down leaves a gap of at least 1 month from the last leap, or from month 0
 abbrev pub leavesGap : Schedule → Bool
-leavesGap s = ltb (lastLeap 0 (leapsOf s)) (expiryMonth s)
+leavesGap s = ltb (lastLeap 0 (s .leaps)) (expiryMonth s)
 
-abbrev pub isPositive : Sign → Bool
-isPositive Positive = true
-isPositive Negative = false
-
--- a place that holds month 0 and a positive sign
-abbrev pub isUnused : Leap → Bool
-isUnused l = eqb (l .month) 0 && isPositive (l .sign)
-
-unfoldable pub allUnused : List Leap → Bool
-allUnused [] = true
-allUnused (l ∷ ls) = isUnused l && allUnused ls
-
--- "well formed": at most 256 leaps, the expiry at most day 114366, every gap from month 0 on to the last leap 1 to 999, the expiry later than the
--- first day of the last leap's month and at most 999 months after it by month number, the other places unused
+-- "well formed": at most 256 leaps, the expiry at most day 114366, every gap from month 0 on to the last leap 1 to 999, and the expiry later than
+-- the first day of the last leap's month and at most 999 months after it by month number
 abbrev pub wellFormed : Schedule → Bool
-wellFormed s =
-    leb (s .count) maxLeaps
-    && leb (s .expiry) endDay
-    && gapsFit 0 (leapsOf s) (s .expiry)
-    && allUnused (drop (s .count) (s .leaps))
+wellFormed s = leb (length (s .leaps)) maxLeaps && leb (s .expiry) endDay && gapsFit 0 (s .leaps) (s .expiry)

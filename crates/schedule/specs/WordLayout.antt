@@ -1,76 +1,76 @@
--- The C struct leap_schedule as 514 words: the month and the sign of each of 256 leaps in turn, then the count, then the expiry day.
+-- A list in code: the 514 words of the C struct leap_schedule. The month and the sign of each leap in turn in 256 places, then the count, then the
+-- expiry day.
 -- Assumes nothing: these are definitions.
-use Prim.Native.Nat.{ℕ, zero, suc, _+_, _*_}
+use Prim.Native.Nat.{ℕ, zero, suc, _+_, _-_, _*_}
 use mathlib.Core.Bool.{Bool, true, _&&_, cond}
 use mathlib.Core.List.{List, [], _∷_, _++_}
-use lib.Dec.{ltb, eqb}
-use lib.ListN.{getD}
+use lib.Dec.{eqb}
+use lib.ListN.{length, getD, take, drop, replicate}
 use Rattle.schedule.specs.declared.Sign.{Sign}
 use Rattle.schedule.specs.declared.Sign.the-variants.{Positive, Negative}
-use Rattle.schedule.specs.declared.Leap.{Leap}
-use Rattle.schedule.specs.declared.Schedule.{Schedule}
-use Rattle.schedule.specs.Schedule.{maxLeaps, blankSchedule}
+use Rattle.schedule.specs.Schedule.{Leap, Schedule, blankSchedule}
 
--- the words of leap i
-abbrev pub monthWord : List ℕ → ℕ → ℕ
-monthWord words i = getD words (2 * i) 0
+-- ---- the words of a schedule
 
-abbrev pub signWord : List ℕ → ℕ → ℕ
-signWord words i = getD words (2 * i + 1) 0
+-- a positive sign is word 0 and a negative one word 1
+abbrev pub wordOfSign : Sign → ℕ
+wordOfSign Positive = 0
+wordOfSign Negative = 1
 
--- the words after the leaps
+-- the words of leaps
+unfoldable pub leapWords : List Leap → List ℕ
+leapWords [] = []
+leapWords (l ∷ ls) = l .month ∷ wordOfSign (l .sign) ∷ leapWords ls
+
+abbrev pub zeroes : ℕ → List ℕ
+zeroes n = replicate n 0
+
+-- the words of a schedule: unused places hold month 0 and a positive sign
+unfoldable pub wordsOf : Schedule → List ℕ
+wordsOf s = leapWords (s .leaps) ++ (zeroes (512 - 2 * length (s .leaps)) ++ (length (s .leaps) ∷ s .expiry ∷ []))
+
+-- ---- the schedule of words
+
+-- the words after the places: the count and the expiry day
 abbrev pub countWord : List ℕ → ℕ
 countWord words = getD words 512 0
 
 abbrev pub expiryWord : List ℕ → ℕ
 expiryWord words = getD words 513 0
 
--- the words of leap i stand for a leap: its month is below 65,536 and its sign is 0 or 1
-abbrev pub standsForLeap : List ℕ → ℕ → Bool
-standsForLeap words i = ltb (monthWord words i) 65_536 && ltb (signWord words i) 2
+-- the words of place i; past the 256 places they count as 0
+abbrev pub monthWord : List ℕ → ℕ → ℕ
+monthWord words i = getD (take 512 words) (2 * i) 0
 
--- the first n leaps all do
-unfoldable pub standForLeaps : List ℕ → ℕ → Bool
-standForLeaps words zero = true
-standForLeaps words (suc n) = standForLeaps words n && standsForLeap words n
+abbrev pub signWord : List ℕ → ℕ → ℕ
+signWord words i = getD (take 512 words) (2 * i + 1) 0
 
--- the sign words of the first n leaps are 0 or 1
-unfoldable pub signsFit : List ℕ → ℕ → Bool
-signsFit words zero = true
-signsFit words (suc n) = signsFit words n && ltb (signWord words n) 2
-
--- sign 0 is positive and sign 1 negative
 abbrev pub signOf : ℕ → Sign
-signOf n = cond (eqb n 0) Positive Negative
+signOf word = cond (eqb word 0) Positive Negative
 
 -- the leap of a month word and a sign word
 abbrev pub leapBy : ℕ → ℕ → Leap
-leapBy month negative = record { month = month; sign = signOf negative }
+leapBy month sign = record { month = month; sign = signOf sign }
 
 abbrev pub leapAt : List ℕ → ℕ → Leap
 leapAt words i = leapBy (monthWord words i) (signWord words i)
 
--- the first n leaps
-unfoldable pub leapsAt : List ℕ → ℕ → List Leap
-leapsAt words zero = []
-leapsAt words (suc n) = leapsAt words n ++ (leapAt words n ∷ [])
+-- the first n leaps of words, two words each
+unfoldable pub leapsIn : ℕ → List ℕ → List Leap
+leapsIn zero words = []
+leapsIn (suc n) words = leapBy (getD words 0 0) (getD words 1 0) ∷ leapsIn n (drop 2 words)
 
--- the leaps, the count and the expiry of the words, whatever stands there
+-- as many leaps as the count says, and the expiry, whatever stands there
 abbrev pub laidOut : List ℕ → Schedule
-laidOut words = record { leaps = leapsAt words maxLeaps; count = countWord words; expiry = expiryWord words }
+laidOut words = record { leaps = leapsIn (countWord words) (take 512 words); expiry = expiryWord words }
 
--- the schedule that the words stand for. Words that stand for no schedule are not well formed: they mean what the blank schedule means.
+-- the first n words of two lists are the same
+unfoldable pub sameWords : ℕ → List ℕ → List ℕ → Bool
+sameWords zero xs ys = true
+sameWords (suc n) xs ys = eqb (getD xs n 0) (getD ys n 0) && sameWords n xs ys
+
+-- the schedule that words mean: the one that they lay out, if they are its words. Other words (a sign word of 2, a place not in use that is not
+-- clear) mean what the blank schedule means, which isn't well formed. So words are refused with 11 exactly when they are not the words of a
+-- well-formed schedule (`refused-words`).
 unfoldable pub meant : List ℕ → Schedule
-meant words = cond (standForLeaps words maxLeaps) (laidOut words) blankSchedule
-
-abbrev pub wordOfSign : Sign → ℕ
-wordOfSign Positive = 0
-wordOfSign Negative = 1
-
--- the words of leaps, and of a schedule
-unfoldable pub leapWords : List Leap → List ℕ
-leapWords [] = []
-leapWords (l ∷ ls) = l .month ∷ wordOfSign (l .sign) ∷ leapWords ls
-
-unfoldable pub wordsOf : Schedule → List ℕ
-wordsOf s = leapWords (s .leaps) ++ (s .count ∷ s .expiry ∷ [])
+meant words = cond (sameWords 514 words (wordsOf (laidOut words))) (laidOut words) blankSchedule

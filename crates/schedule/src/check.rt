@@ -1,17 +1,14 @@
-// The faults of a schedule, by value and as words. They are counted, so that no loop over them has a way out and each is compiled to vectors.
+// The faults of words that are not those of a well-formed schedule. They are counted, so that no loop over them has a way out and each is compiled to vectors.
 ghost use mathlib.Core.Path.{_≡_};
 ghost use mathlib.Core.Bool.{_&&_};
 ghost use Prim.Native.Nat.{_≤_, _<_};
 ghost use lib.Dec.{eqb, ltb};
-ghost use lib.ListN.{drop};
-ghost use Rattle.schedule.specs.Schedule.{maxLeaps, endDay, leapsOf, gapFits, expiryFits, gapsFit, isUnused, allUnused};
-ghost use Rattle.schedule.specs.WordLayout.{signsFit, countWord, expiryWord, leapsAt, laidOut};
-ghost use Rattle.schedule.specs.Inner.{greatMonth};
+ghost use Rattle.schedule.specs.Schedule.{maxLeaps, endDay, gapFits, expiryFits, gapsFit};
+ghost use Rattle.schedule.specs.WordLayout.{countWord, expiryWord, laidOut};
+ghost use Rattle.schedule.specs.Private.{greatMonth, signsFit, RestClear};
 use crate::FIRST_DAY;
 use crate::LAST_MONTH;
-use crate::Leap;
 use crate::MAX_GAP;
-use crate::Sign;
 use crate::wide;
 
 // 0 if the gap from a month to another is 1 to 999, else 1. One comparison sees both ends: a gap below 1 wraps round to a great number. From a
@@ -54,22 +51,6 @@ pub(crate) fn expiry_misfit(from: u32, expiry: u32) -> u32
     misfit(from, month)
 }
 
-// 0 if a place holds month 0 and a positive sign, else 1.
-pub(crate) fn used(l: Leap) -> u32
-    ensures { λ r. ⌜ (eqb r 0 ≡ isUnused l) × (r ≤ 1) ⌝ }
-{
-    let month = l.month;
-    if month == 0 {
-        let sign = l.sign;
-        match sign {
-            Sign::Positive => 0,
-            Sign::Negative => 1,
-        }
-    } else {
-        1
-    }
-}
-
 // 0 if a sign word is 0 or 1, else 1.
 fn unsigned(negative: u32) -> u32
     ensures { λ r. ⌜ (eqb r 0 ≡ ltb negative 2) × (r ≤ 1) ⌝ }
@@ -80,10 +61,20 @@ fn unsigned(negative: u32) -> u32
     1
 }
 
+// 1 if two words differ, else 0.
+pub(crate) fn differ(x: u32, y: u32) -> u32
+    ensures { λ r. ⌜ (eqb r 0 ≡ eqb x y) × (r ≤ 1) ⌝ }
+{
+    if x == y {
+        return 0;
+    }
+    1
+}
+
 // Whether the gaps are 1 to 999 months, from month 0 over the leaps in use, the expiry fits the last, and the sign words are 0 or 1.
 pub(crate) fn leaps_fit(words: &[u32; 514]) -> bool
     requires { ⌜ (countWord (now words) ≤ maxLeaps) × (expiryWord (now words) ≤ endDay) ⌝ }
-    ensures { λ r. ⌜ r ≡ (signsFit (now (words .entry)) (countWord (now (words .entry))) && gapsFit 0 (leapsOf (laidOut (now (words .entry)))) (expiryWord (now (words .entry)))) ⌝ }
+    ensures { λ r. ⌜ r ≡ (signsFit (now (words .entry)) (countWord (now (words .entry))) && gapsFit 0 (laidOut (now (words .entry)) .leaps) (expiryWord (now (words .entry)))) ⌝ }
 {
     let count = words[512];
     let mut signs: u32 = 0;
@@ -104,7 +95,7 @@ pub(crate) fn leaps_fit(words: &[u32; 514]) -> bool
 // Whether the words after the leaps in use are all 0.
 pub(crate) fn rest_clear(words: &[u32; 514]) -> bool
     requires { ⌜ countWord (now words) ≤ maxLeaps ⌝ }
-    ensures { λ r. ⌜ r ≡ allUnused (drop (countWord (now (words .entry))) (leapsAt (now (words .entry)) maxLeaps)) ⌝ }
+    ensures { λ r. ⌜ RestClear (now (words .entry)) (countWord (now (words .entry))) r ⌝ }
 {
     let count = words[512];
     let mut rest: u32 = 0;

@@ -1,15 +1,17 @@
-// A schedule of leap seconds, by value and as the words of the C struct, and what readers and writers of it answer.
+// A list of leap seconds in code: the 514 words of the C struct, lent. What they mean is a schedule of the definitions; here they are checked and
+// read, and what readers and writers of them answer is told.
 ghost use mathlib.Core.Path.{_≡_};
 ghost use mathlib.Core.Bool.{true, _&&_};
-ghost use Prim.Native.Nat.{_≤_, min};
-ghost use lib.Dec.{ltb, leb};
-ghost use lib.ListN.{length};
-ghost use Rattle.schedule.specs.Schedule.{maxLeaps, lastMonth, endDay, monthStart, blankSchedule, leapsOf, isExpired, lastLeap, expiryMonth, leavesGap, wellFormed};
-ghost use Rattle.schedule.specs.Extends.{sameSign, sameLeap, extends};
-ghost use Rattle.schedule.specs.WordLayout.{standForLeaps, leapBy, laidOut, meant, wordOfSign};
-ghost use Rattle.schedule.specs.Answers.{refusal, HandsReading};
+ghost use Prim.Native.Nat.{_*_, _≤_, min};
+ghost use lib.Dec.{eqb};
+ghost use lib.ListN.{take};
+ghost use Rattle.schedule.specs.Schedule.{maxLeaps, lastMonth, monthStart, monthOf, isExpired, lastLeap, wellFormed};
+ghost use Rattle.schedule.specs.Extends.{extends};
+ghost use Rattle.schedule.specs.WordLayout.{countWord, expiryWord, monthWord, signWord, signOf, meant, wordOfSign};
+ghost use Rattle.schedule.specs.Answers.{refusal, unwritable, HandsReading};
+ghost use Rattle.schedule.specs.Private.{SameLeaps};
 
-mod check; // check.rt: the faults of a schedule that is not well formed
+mod check; // check.rt: the faults of words that are not those of a well-formed schedule
 
 // A schedule has at most 256 leaps.
 pub const MAX_LEAPS: usize = 256;
@@ -31,46 +33,10 @@ pub enum Sign {
     Negative,
 }
 
-// A leap second at the end of the day before month `month` starts.
-pub struct Leap {
-    pub month: u16,
-    pub sign: Sign,
-}
-
-// The first `count` of `leaps` are in use; the others hold month 0 and a positive sign. From day `expiry` on nothing is known.
-pub struct Schedule {
-    pub leaps: [Leap; 256],
-    pub count: usize,
-    pub expiry: u32,
-}
-
-// What a reader answers: number 0, place 0 and the schedule, or a refusal's number, its place and the blank schedule.
-pub struct Reading {
-    pub number: u8,
-    pub place: usize,
-    pub schedule: Schedule,
-}
-
 // What a writer answers: number 0 and the count of bytes written, or a refusal's number and 0.
 pub struct Writing {
     pub number: u8,
     pub count: usize,
-}
-
-// The blank schedule: no leaps and expiry day 0. It is not well formed.
-pub fn blank() -> Schedule
-    ensures { λ r. ⌜ r ≡ blankSchedule ⌝ }
-{
-    let none = Leap {
-        month: 0,
-        sign: Sign::Positive,
-    };
-    let leaps = [none; 256];
-    Schedule {
-        leaps,
-        count: 0,
-        expiry: 0,
-    }
 }
 
 // A month as a wider number.
@@ -78,6 +44,19 @@ pub fn wide(x: u16) -> u32
     ensures { λ r. ⌜ r ≡ x ⌝ }
 {
     x as u32
+}
+
+// A word as a wider number.
+fn size(x: u32) -> usize
+    ensures { λ r. ⌜ r ≡ x ⌝ }
+{
+    x as usize
+}
+
+fn long(x: u32) -> u64
+    ensures { λ r. ⌜ r ≡ x ⌝ }
+{
+    x as u64
 }
 
 // The word of a sign.
@@ -90,85 +69,48 @@ pub fn word_of_sign(sign: Sign) -> u32
     }
 }
 
-// A word as a wider number.
-fn size(x: u32) -> usize
-    ensures { λ r. ⌜ r ≡ x ⌝ }
+// The sign of a word.
+pub fn sign_of(word: u32) -> Sign
+    ensures { λ r. ⌜ r ≡ signOf word ⌝ }
 {
-    x as usize
+    if word == 0 {
+        return Sign::Positive;
+    }
+    Sign::Negative
 }
 
-// Whether a word is below a limit.
-fn below(word: u32, limit: u32) -> bool
-    ensures { λ r. ⌜ r ≡ ltb word limit ⌝ }
+// How many leaps the words claim.
+pub fn count_of(words: &[u32; 514]) -> usize
+    ensures { λ r. ⌜ r ≡ countWord (now (words .entry)) ⌝ }
 {
-    word < limit
+    size(words[512])
 }
 
-// Whether both are true.
-fn both(a: bool, b: bool) -> bool
-    ensures { λ r. ⌜ r ≡ (a && b) ⌝ }
+// The month of leap i, 0 where there is no such place.
+pub fn month_at(words: &[u32; 514], i: usize) -> u32
+    ensures { λ r. ⌜ r ≡ monthWord (now (words .entry)) i ⌝ }
 {
-    if a { b } else { false }
+    if MAX_LEAPS <= i {
+        return 0;
+    }
+    words[2 * i]
 }
 
-// Whether the leaps' words all stand for leaps. The loop goes over all of them, since with a way out it would not be compiled to vectors.
-fn stand_for_leaps(words: &[u32; 514]) -> bool
-    ensures { λ r. ⌜ r ≡ standForLeaps (now (words .entry)) maxLeaps ⌝ }
+// The sign of leap i, positive where there is no such place.
+pub fn sign_at(words: &[u32; 514], i: usize) -> Sign
+    ensures { λ r. ⌜ r ≡ signOf (signWord (now (words .entry)) i) ⌝ }
 {
-    let mut stand = true;
-    let mut i: usize = 0;
-    while i < 256 {
-        let month = below(words[2 * i], 65_536);
-        let sign = below(words[2 * i + 1], 2);
-        stand = both(stand, both(month, sign));
-        i += 1;
+    if MAX_LEAPS <= i {
+        return Sign::Positive;
     }
-    stand
+    sign_of(words[2 * i + 1])
 }
 
-// The leap of a month and a sign word.
-fn leap_by(month: u16, negative: u32) -> Leap
-    ensures { λ r. ⌜ r ≡ leapBy month negative ⌝ }
+// The day on which the list expires.
+pub fn expiry_of(words: &[u32; 514]) -> u32
+    ensures { λ r. ⌜ r ≡ expiryWord (now (words .entry)) ⌝ }
 {
-    if negative == 0 {
-        return Leap {
-            month,
-            sign: Sign::Positive,
-        };
-    }
-    Leap {
-        month,
-        sign: Sign::Negative,
-    }
-}
-
-// The schedule that is laid out in words that stand for leaps.
-fn laid_out(words: &[u32; 514]) -> Schedule
-    requires { ⌜ standForLeaps (now words) maxLeaps ≡ true ⌝ }
-    ensures { λ r. ⌜ r ≡ laidOut (now (words .entry)) ⌝ }
-{
-    let none = leap_by(0, 0);
-    let mut leaps = [none; 256];
-    let mut i: usize = 0;
-    while i < 256 {
-        leaps[i] = leap_by(words[2 * i] as u16, words[2 * i + 1]);
-        i += 1;
-    }
-    Schedule {
-        leaps,
-        count: size(words[512]),
-        expiry: words[513],
-    }
-}
-
-// The schedule that the words stand for; the blank one where they stand for none.
-pub fn of_words(words: &[u32; 514]) -> Schedule
-    ensures { λ r. ⌜ r ≡ meant (now (words .entry)) ⌝ }
-{
-    if stand_for_leaps(words) {
-        return laid_out(words);
-    }
-    blank()
+    words[513]
 }
 
 // Hands a reader's refusal over: its number, its place and the words of the blank schedule.
@@ -180,37 +122,7 @@ pub fn hand_refusal(number: u8, at: usize, out: &mut [u32; 514], place: &mut u64
     number
 }
 
-// Whether a schedule is well formed; any value at all may be given.
-pub fn is_well_formed(s: Schedule) -> bool
-    ensures { λ r. ⌜ r ≡ wellFormed s ⌝ }
-{
-    let count = s.count;
-    let expiry = s.expiry;
-    if MAX_LEAPS < count {
-        return false;
-    }
-    if END_DAY < expiry {
-        return false;
-    }
-    let mut faults: u32 = 0;
-    let mut last: u32 = 0;
-    let mut i: usize = 0;
-    while i < count {
-        let at = wide(s.leaps[i].month);
-        faults += check::misfit(last, at);
-        last = at;
-        i += 1;
-    }
-    faults += check::expiry_misfit(last, expiry);
-    while i < 256 {
-        let l = s.leaps[i];
-        faults += check::used(l);
-        i += 1;
-    }
-    faults == 0
-}
-
-// Whether words stand for a well-formed schedule; any words at all may be given.
+// Whether words are those of a well-formed schedule; any words at all may be given.
 pub fn is_list(words: &[u32; 514]) -> bool
     ensures { λ r. ⌜ r ≡ wellFormed (meant (now (words .entry))) ⌝ }
 {
@@ -237,69 +149,6 @@ pub fn expiry_at(month: u32) -> u32
     calendar::first_day(month as u16) as u32
 }
 
-// Whether two signs are equal.
-fn same_sign(a: Sign, b: Sign) -> bool
-    ensures { λ r. ⌜ r ≡ sameSign a b ⌝ }
-{
-    match a {
-        Sign::Positive => match b {
-            Sign::Positive => true,
-            Sign::Negative => false,
-        },
-        Sign::Negative => match b {
-            Sign::Positive => false,
-            Sign::Negative => true,
-        },
-    }
-}
-
-// Whether two leaps are equal in month and sign.
-fn same_leap(a: Leap, b: Leap) -> bool
-    ensures { λ r. ⌜ r ≡ sameLeap a b ⌝ }
-{
-    if a.month == b.month {
-        let x = a.sign;
-        let y = b.sign;
-        same_sign(x, y)
-    } else {
-        false
-    }
-}
-
-// How many places are in use: all 256 where more are claimed.
-fn in_use(s: Schedule) -> usize
-    ensures { λ r. ⌜ (r ≡ length (leapsOf s)) × (r ≤ 256) ⌝ }
-{
-    let count = s.count;
-    if count < MAX_LEAPS { count } else { MAX_LEAPS }
-}
-
-// The month of the last leap in use, or month 0 where there is none.
-fn last_leap(s: Schedule) -> u32
-    ensures { λ r. ⌜ r ≡ lastLeap 0 (leapsOf s) ⌝ }
-{
-    let n = in_use(s);
-    if n == 0 {
-        return 0;
-    }
-    let last = n - 1;
-    wide(s.leaps[last].month)
-}
-
-// The month to which the writers round the expiry down.
-pub fn expiry_month(s: Schedule) -> u32
-    ensures { λ r. ⌜ r ≡ expiryMonth s ⌝ }
-{
-    wide(calendar::latest_month(s.expiry as u64))
-}
-
-// Whether rounding the expiry down leaves a gap.
-pub fn leaves_gap(s: Schedule) -> bool
-    ensures { λ r. ⌜ r ≡ leavesGap s ⌝ }
-{
-    below(last_leap(s), expiry_month(s))
-}
-
 // Whether a month is at or after an expiry. A month past 2400 is taken as month 2400.
 pub fn is_expired(expiry: u32, month: u32) -> bool
     ensures { λ r. ⌜ r ≡ isExpired expiry (min month lastMonth) ⌝ }
@@ -307,37 +156,84 @@ pub fn is_expired(expiry: u32, month: u32) -> bool
     expiry <= expiry_at(month)
 }
 
-// Whether a list extends another; any values at all may be given. Nothing extends a list that expires past the calendar.
-pub fn extends(longer: Schedule, shorter: Schedule) -> bool
-    ensures { λ r. ⌜ r ≡ (leb (shorter .expiry) endDay && extends longer shorter) ⌝ }
+// The month to which the writers round the expiry down.
+pub fn expiry_month(words: &[u32; 514]) -> u32
+    ensures { λ r. ⌜ r ≡ monthOf (expiryWord (now (words .entry))) ⌝ }
 {
-    let expiry = shorter.expiry;
-    if END_DAY < expiry {
-        return false;
+    wide(calendar::latest_month(long(words[513])))
+}
+
+// The month of the last leap of a list, or month 0 where there is none.
+fn last_leap(words: &[u32; 514]) -> u32
+    requires { ⌜ wellFormed (meant (now words)) ≡ true ⌝ }
+    ensures { λ r. ⌜ r ≡ lastLeap 0 (meant (now (words .entry)) .leaps) ⌝ }
+{
+    let n = count_of(words);
+    if n == 0 {
+        return 0;
     }
-    if longer.expiry < expiry {
-        return false;
+    month_at(words, n - 1)
+}
+
+// The number with which every writer refuses a list: 11, or 17 where rounding the expiry down leaves no gap; else 0.
+pub fn unwritable(words: &[u32; 514]) -> u8
+    ensures { λ r. ⌜ r ≡ unwritable (meant (now (words .entry))) ⌝ }
+{
+    if !is_list(words) {
+        return refusals::NOT_WELL_FORMED;
     }
-    let n = in_use(longer);
-    let m = in_use(shorter);
-    let mut i: usize = 0;
+    if last_leap(words) < expiry_month(words) {
+        return 0;
+    }
+    refusals::NO_GAP
+}
+
+// Whether the first n leaps of two lists are equal in month and sign.
+fn same_leaps(a: &[u32; 514], b: &[u32; 514], n: usize) -> bool
+    requires { ⌜ n ≤ maxLeaps ⌝ }
+    ensures { λ r. ⌜ SameLeaps (now (a .entry)) (now (b .entry)) n r ⌝ }
+{
+    let mut faults: u32 = 0;
     let mut j: usize = 0;
-    while i < n {
-        let l = longer.leaps[i];
-        if is_expired(expiry, wide(l.month)) {
-            i += 1;
-        } else {
-            if m <= j {
-                return false;
-            }
-            let k = shorter.leaps[j];
-            if same_leap(l, k) {
-                i += 1;
-                j += 1;
-            } else {
-                return false;
-            }
-        }
+    while j < 2 * n {
+        faults += check::differ(a[j], b[j]);
+        j += 1;
     }
-    j == m
+    faults == 0
+}
+
+// Whether a list goes on from another: it has the other's leaps first, and then, at the other's expiry or after it, its own.
+fn goes_on(longer: &[u32; 514], shorter: &[u32; 514]) -> bool
+    requires { ⌜ (wellFormed (meant (now longer)) ≡ true) × (wellFormed (meant (now shorter)) ≡ true) ⌝ }
+    ensures { λ r. ⌜ r ≡ extends (meant (now (longer .entry))) (meant (now (shorter .entry))) ⌝ }
+{
+    let expiry = expiry_of(shorter);
+    if expiry_of(longer) < expiry {
+        return false;
+    }
+    let m = count_of(shorter);
+    let n = count_of(longer);
+    if n < m {
+        return false;
+    }
+    if !same_leaps(longer, shorter, m) {
+        return false;
+    }
+    if m < n {
+        return is_expired(expiry, month_at(longer, m));
+    }
+    true
+}
+
+// Whether both are lists and the first extends the second; any words at all may be given.
+pub fn extends(longer: &[u32; 514], shorter: &[u32; 514]) -> bool
+    ensures { λ r. ⌜ r ≡ (wellFormed (meant (now (longer .entry))) && wellFormed (meant (now (shorter .entry))) && extends (meant (now (longer .entry))) (meant (now (shorter .entry)))) ⌝ }
+{
+    if !is_list(longer) {
+        return false;
+    }
+    if !is_list(shorter) {
+        return false;
+    }
+    goes_on(longer, shorter)
 }

@@ -1,10 +1,11 @@
--- `schedule::check::leaps_fit` meets its contract: the loop keeps what the first one of `is_well_formed` keeps, for the schedule that the
--- words lay out, and the faults of the sign words.
+-- `schedule::check::leaps_fit` meets its contract: the loop counts the faults in the gaps of the schedule that the words lay out, and
+-- those of the sign words.
 -- Assumes nothing.
 use Prim.Native.Nat.{_-_}
 use native.Mathlib.Omega.{arith}
 use borrow.Author.Needs.{needs}
-use Rattle.schedule.proofs.WordFaults.{GappedAt, gapped-at-none, gapped-at-one, gapped-at-all}
+use Rattle.schedule.proofs.WordLayout.{laid-length}
+use Rattle.schedule.proofs.Faults.{GappedAt, gapped-at-none, gapped-at-one, gapped-at-all}
 use Rattle.schedule.proofs.check.leaps_fit.Statement.{statement}
 use Rattle.schedule.proofs.check.leaps_fit.Tie as tie
 
@@ -27,31 +28,35 @@ loop-again c =
 
 add-signs : tie.Need-add-signs Inv-loop μ-loop
 add-signs c =
+    let args = c .before .before .before .before .before .before .args in
     let loop = c .before .before .before .before .loop in
     let unsigned = c .unsigned in
     let pre = c .before .before .before .before .before .before .pre in
-    omega (arith, loop .inv .few, loop .inv .gapped .place, unsigned .ensures .1, pre .0)
+    omega (arith, loop .inv .few, loop .inv .gapped .place, laid-length (args .words .now), unsigned .ensures .1, pre .0)
 
 add-faults : tie.Need-add-faults Inv-loop μ-loop
 add-faults c =
+    let args = c .before .before .before .before .before .before .before .args in
     let loop = c .before .before .before .before .before .loop in
     let misfit = c .misfit in
     let pre = c .before .before .before .before .before .before .before .pre in
-    omega (arith, loop .inv .gapped .few, loop .inv .gapped .place, misfit .ensures .1, pre .0)
+    omega (arith, loop .inv .gapped .few, loop .inv .gapped .place, laid-length (args .words .now), misfit .ensures .1, pre .0)
 
 add-faults-2 : tie.Need-add-faults-2 Inv-loop μ-loop
 add-faults-2 c =
+    let args = c .before .before .before .before .before .args in
     let loop = c .before .before .before .loop in
     let expiry-misfit = c .expiry-misfit in
     let pre = c .before .before .before .before .before .pre in
-    omega (arith, loop .inv .gapped .few, loop .inv .gapped .place, expiry-misfit .ensures .1, pre .0)
+    omega (arith, loop .inv .gapped .few, loop .inv .gapped .place, laid-length (args .words .now), expiry-misfit .ensures .1, pre .0)
 
 add-result : tie.Need-add-result Inv-loop μ-loop
 add-result c =
+    let args = c .before .before .before .before .before .args in
     let loop = c .before .before .before .loop in
     let expiry-misfit = c .expiry-misfit in
     let pre = c .before .before .before .before .before .pre in
-    omega (arith, loop .inv .few, loop .inv .gapped .few, loop .inv .gapped .place, expiry-misfit .ensures .1, pre .0)
+    omega (arith, loop .inv .few, loop .inv .gapped .few, loop .inv .gapped .place, laid-length (args .words .now), expiry-misfit .ensures .1, pre .0)
 
 returns : tie.Need-returns Inv-loop μ-loop
 returns c =

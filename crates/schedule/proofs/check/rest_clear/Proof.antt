@@ -33,7 +33,7 @@ returns c =
     let args = c .before .before .before .args in
     let pre = c .before .before .before .pre in
     let end : loop .j ≡ 512 = omega (arith, loop .inv .0, loop-test .left) in
-    together-tells (args .words .now) (countWord (args .words .now)) (loop .rest) (pre) (rw end at (loop .inv .1))
+    together-tells (args .words .now) (countWord (args .words .now)) (loop .rest) (rw end at (loop .inv .1))
 
 pub rest-clear-spec : {M : Type 1} → statement M
 rest-clear-spec =
