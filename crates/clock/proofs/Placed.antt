@@ -22,8 +22,7 @@ use Rattle.schedule.specs.Schedule.{noLeap, leapsOf, gapsFit, wellFormed}
 use Rattle.schedule.specs.Extends.{sameSign}
 use Rattle.schedule.proofs.Gaps.{fits-lt, first, later, parts}
 use Rattle.clock.specs.declared.look.Survey.{Survey}
-use Rattle.clock.specs.Days.{count, tally}
-use Rattle.clock.specs.Inner.{ofSign, ByMonth, Lowered, Ahead, TalliedOn}
+use Rattle.clock.specs.Private.{count, tally, ofSign, ByMonth, Lowered, Ahead, TalliedOn}
 use Rattle.clock.proofs.Leaps.{not-yet, tally-none}
 
 -- ---- leaps in their order

@@ -17,7 +17,7 @@ use Rattle.clock.specs.declared.look.Survey.{Survey}
 use Rattle.clock.specs.declared.days.Day.{Day}
 use Rattle.clock.specs.Days.{ending}
 use Rattle.clock.specs.Known.{lastDay, knownTo, known}
-use Rattle.clock.specs.Inner.{Surveyed, SurveyedOn, endingBy, ListFor, DayFor, nearDay}
+use Rattle.clock.specs.Private.{Surveyed, SurveyedOn, endingBy, ListFor, DayFor, nearDay}
 use Rattle.clock.proofs.Leaps.{part}
 use Rattle.clock.proofs.Tai.{last-inside, tally-after}
 

@@ -22,7 +22,7 @@ use Rattle.schedule.proofs.Gaps.{parts}
 use Rattle.clock.specs.declared.look.Survey.{Survey}
 use Rattle.clock.specs.declared.days.Day.{Day}
 use Rattle.clock.specs.Known.{lastDay}
-use Rattle.clock.specs.Inner.{TalliedOn, SurveyedOn, ListFor, DayFor, Starts, Tallies, Stretch, Prepared}
+use Rattle.clock.specs.Private.{TalliedOn, SurveyedOn, ListFor, DayFor, Starts, Tallies, Stretch, Prepared}
 use Rattle.clock.proofs.Placed.{leapMonth, in-order, Placed, placed-same, placed-next, tallied-by}
 
 -- ---- by the days on which the leaps of a well-formed schedule take effect

@@ -8,7 +8,7 @@ ghost use Rattle.clock.specs.Question.{atDate};
 ghost use mathlib.Core.Bool.{true};
 ghost use Rattle.schedule.specs.Schedule.{wellFormed};
 ghost use Rattle.schedule.specs.WordLayout.{meant};
-ghost use Rattle.clock.specs.Inner.{SurveyedOn, endingBy, dayOn, ListFor, DayFor, told};
+ghost use Rattle.clock.specs.Private.{SurveyedOn, endingBy, dayOn, ListFor, DayFor, told};
 use crate::inplace::look_at;
 use crate::look::Survey;
 use crate::look::look;

@@ -9,8 +9,7 @@ ghost use Rattle.schedule.specs.declared.Schedule.{Schedule};
 ghost use Rattle.schedule.specs.Schedule.{maxLeaps, leapsOf, wellFormed};
 ghost use Rattle.schedule.specs.Extends.{sameSign};
 ghost use Rattle.schedule.specs.declared.Sign.the-variants.{Positive, Negative};
-ghost use Rattle.clock.specs.Days.{count};
-ghost use Rattle.clock.specs.Inner.{ByMonth, Lowered, Ahead, TalliedOn, Surveyed};
+ghost use Rattle.clock.specs.Private.{count, ByMonth, Lowered, Ahead, TalliedOn, Surveyed};
 use schedule::Schedule;
 use schedule::Sign;
 

@@ -1,7 +1,7 @@
--- What only the private functions of src/ are held to: the leaps by a month, what one look at a schedule finds, and what it says of a
--- day. No public contract and no promise speaks of these.
+-- What only private functions are held to: the leaps by their sign and by a month, what one look at a schedule finds, and what it says of
+-- a day. No public contract and no promise speaks of these.
 -- Assumes nothing: these are definitions.
-use mathlib.Core.Bool.{Bool, true, cond}
+use mathlib.Core.Bool.{Bool, true, false, cond, _&&_}
 use mathlib.Core.List.{List, [], _∷_}
 use mathlib.Core.Path.{_≡_}
 use Prim.Native.Nat.{ℕ, zero, suc, _+_, _-_, _*_, _/_, _≤_, _<_, min}
@@ -18,11 +18,21 @@ use Rattle.clock.specs.declared.days.Ending.{Ending}
 use Rattle.clock.specs.declared.days.Ending.the-variants.{Ordinary, Inserted, Deleted}
 use Rattle.clock.specs.declared.look.Survey.{Survey}
 use Rattle.clock.specs.declared.days.Day.{Day}
-use Rattle.clock.specs.Days.{microsPerDay, count, tally, ending}
+use Rattle.clock.specs.Days.{microsPerDay, inEffect, ending}
 use Rattle.clock.specs.Known.{lastDay, taiCutoff, knownTo}
 use Rattle.clock.specs.Question.{Answer, given, refused, require, Utc}
 use Rattle.clock.specs.Many.{HandsMany, HandsManyUtc}
 use Rattle.refusals.specs.Refusals.{notKnown}
+
+-- 1 where a test passes, else 0
+abbrev pub count : Bool → ℕ
+count true = 1
+count false = 0
+
+-- how many leaps of a sign are in effect on a day
+abbrev pub tally : Sign → List Leap → ℕ → ℕ
+tally sign [] day = 0
+tally sign (l ∷ ls) day = count (sameSign sign (l .sign) && inEffect l day) + tally sign ls day
 
 -- how many of the leaps have the sign
 abbrev pub ofSign : Sign → List Leap → ℕ
