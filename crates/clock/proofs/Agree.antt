@@ -17,11 +17,13 @@ use Rattle.schedule.specs.Schedule.{leapsOf, wellFormed}
 use Rattle.schedule.specs.Extends.{Extends}
 use Rattle.schedule.proofs.Cases.{by-bool}
 use Rattle.schedule.proofs.Gaps.{parts}
-use Rattle.clock.specs.Days.{longDay, shortDay, tally, dtai, endingBefore, ending, dayLength, tai}
+use Rattle.clock.specs.Days.{longDay, shortDay, dtai, endingBefore, ending, dayLength, tai}
 use Rattle.clock.specs.Smoothed.{nanosPerDay, uts, utcOf}
 use Rattle.clock.specs.Known.{lastDay, fullyKnown, taiCutoff, utsCutoff, nanosCutoff, known, knownDate, taiEnd, knownTai}
 use Rattle.clock.specs.Question.{Answer, given, refused, require, firstTai, atInstant, atUtc, dtaiOn, utcToTai, dayOf, taiToUtc, utcToUts, utsToUtc, Question, DTAI, UTC-to-TAI, TAI-to-UTC, UTC-to-UTS, UTS-to-UTC, ask}
 use Rattle.clock.specs.Lists.{Open, Kept}
+use Rattle.clock.specs.Private.{tally}
+use Rattle.clock.proofs.Tallied.{dtai-tallied}
 use Rattle.clock.proofs.Leaps.{tally-below, ending-below, ending-known}
 use Rattle.clock.proofs.Tai.{length-least, expires-later, ending-last}
 use Rattle.clock.proofs.Uts.{uts-plain}
@@ -75,11 +77,11 @@ module _ (L S : Schedule) (longer : Extends L S) (wL : wellFormed L ≡ true) (w
       sym (tally-below sign (S .expiry) day (leapsOf L) (omega (arith, expires-later S wS))) ∙ ap (λ ls. tally sign ls day) (longer .same)
 
   dtai-same : (day : ℕ) → day ≤ lastDay S → dtai L day ≡ dtai S day
-  dtai-same day h = rw (tally-same Positive day h, tally-same Negative day h)
+  dtai-same day h = rw (dtai-tallied L day, dtai-tallied S day, tally-same Positive day h, tally-same Negative day h)
 
   tai-same : (day t : ℕ) → day ≤ lastDay S → tai L day t ≡ tai S day t
   unfolding tai
-  tai-same day t h = rw (tally-same Positive day h, tally-same Negative day h)
+  tai-same day t h = rw (dtai-same day h)
 
   ending-earlier : (day : ℕ) → day < lastDay S → ending L day ≡ ending S day
   ending-earlier day h = sym (ending-below (S .expiry) (day + 1) (leapsOf L) (omega arith)) ∙ ap (λ ls. endingBefore ls (day + 1)) (longer .same)

@@ -18,7 +18,7 @@ use Rattle.clock.specs.Smoothed.{nanosPerDay}
 use Rattle.clock.specs.Known.{lastDay, fullyKnown, nanosCutoff, knownTo, known, knownDate}
 use Rattle.clock.specs.Question.{Answer, given, refused, require, number, atDate, atInstant, atUtc, atUts}
 use Rattle.clock.specs.Taken.{Within}
-use Rattle.clock.specs.Inner.{told}
+use Rattle.clock.specs.Private.{told}
 use Rattle.clock.proofs.Tai.{length-least, length-most}
 
 -- ---- the end of knowledge

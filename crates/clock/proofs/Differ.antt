@@ -22,7 +22,9 @@ use Rattle.schedule.specs.Extends.{sameSign, below, Extends}
 use Rattle.schedule.proofs.Gaps.{fits-lt, first, later, before-end, parts}
 use Rattle.schedule.proofs.Expired.{is-expired, not-expired}
 use Rattle.schedule.proofs.Extension.{below-none}
-use Rattle.clock.specs.Days.{firstDtai, count, tally, dtai}
+use Rattle.clock.specs.Days.{firstDtai, dtai}
+use Rattle.clock.specs.Private.{count, tally}
+use Rattle.clock.proofs.Tallied.{dtai-tallied}
 use Rattle.clock.specs.Known.{lastDay}
 use Rattle.clock.specs.Question.{given, DTAI, ask}
 use Rattle.clock.specs.Lists.{Agreed, Parted}
@@ -197,7 +199,7 @@ extends-or-parted s s′ w w′ = go (compare 0 (leapsOf s) (leapsOf s′) (s .e
           first = dtai-given s (r .day) w from (r .before);
           second = dtai-given s′ (r .day) w′ from (r .before′);
           differ = λ e. r .apart
-              (omega (arith, minus-same (firstDtai + tally Positive (leapsOf s) (r .day)) (tally Negative (leapsOf s) (r .day)) (firstDtai + tally Positive (leapsOf s′) (r .day)) (tally Negative (leapsOf s′) (r .day)) e));
+              (omega (arith, minus-same (firstDtai + tally Positive (leapsOf s) (r .day)) (tally Negative (leapsOf s) (r .day)) (firstDtai + tally Positive (leapsOf s′) (r .day)) (tally Negative (leapsOf s′) (r .day)) (sym (dtai-tallied s (r .day)) ∙ e ∙ dtai-tallied s′ (r .day))));
         }))
 
 not-parted : (s s′ : Schedule) → Agreed s s′ → Parted s s′ → ⊥

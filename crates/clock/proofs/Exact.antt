@@ -1,43 +1,28 @@
--- TAI and UTS in the integers: the definitions, which compute in ℕ, are the paper's formulas; and in an inserted second DTAI is still the old one.
+-- TAI and UTS are the paper's formulas in the integers, with nothing cut off; and in an inserted second DTAI is still the old one.
 -- Assumes nothing.
 use mathlib.Core.Bool.{Bool, true, false, cond}
 use mathlib.Core.Path.{_≡_, refl, sym, ap, ap₂, _∙_}
-use Prim.Native.Nat.{ℕ, zero, suc, _+_, _-_, _*_, _≤_, _<_}
+use Prim.Native.Nat.{ℕ, suc, _+_, _-_, _*_, _≤_, _<_}
 use native.Mathlib.Decide.{decLt}
 use native.Mathlib.Omega.{arith}
 use lib.Dec.{ltb}
-use lib.IntN.{ℤ, pos, negsuc, subℕ, negℤ, negℤ-negℤ, _+ℤ_, _-ℤ_, _*ℤ_}
-use borrow.Author.Tests.{ltb-true, ltb-false, lt-ltb, le-ltb}
+use lib.IntN.{ℤ, pos, negsuc, subℕ, negℤ-negℤ, _+ℤ_, _-ℤ_, _*ℤ_}
+use borrow.Author.Tests.{lt-ltb, le-ltb}
 use Rattle.schedule.specs.declared.Sign.the-variants.{Positive, Negative}
 use Rattle.schedule.specs.declared.Schedule.{Schedule}
 use Rattle.schedule.specs.Schedule.{leapsOf, wellFormed}
 use Rattle.calendar.specs.Calendar.{firstDay}
 use Rattle.clock.specs.declared.days.Ending.{Ending}
 use Rattle.clock.specs.declared.days.Ending.the-variants.{Ordinary, Inserted, Deleted}
-use Rattle.clock.specs.Days.{microsPerSecond, microsPerDay, firstDtai, tally, ending, dayLength, dtai, tai}
+use Rattle.clock.specs.Days.{microsPerDay, firstDtai, ending, dayLength, dtai, tai}
 use Rattle.clock.specs.Smoothed.{smoothing, minus, uts}
 use Rattle.clock.specs.Known.{taiCutoff}
 use Rattle.clock.specs.Question.{given, utcToTai}
+use Rattle.clock.specs.Private.{tally}
+use Rattle.clock.proofs.Tallied.{plus-negative, plus-times, dtai-tallied, days-exact, tai-tallied}
 use Rattle.clock.proofs.Leaps.{part}
 use Rattle.clock.proofs.Tai.{length-least, deleted-few, tally-after}
 use Rattle.clock.proofs.Checks.{on-utc}
-
--- x - y, where y is not above x
-plus-negative : (x y : ℕ) → y ≤ x → pos x +ℤ negℤ (pos y) ≡ pos (x - y)
-plus-negative x zero h = ap pos (omega arith)
-plus-negative x (suc y) h = rw (le-ltb x (suc y) h)
-
--- x + 1,000,000 (a - b), where nothing is cut off
-plus-times : (x a b : ℕ) → microsPerSecond * b ≤ x + microsPerSecond * a
-    → pos (x + microsPerSecond * a - microsPerSecond * b) ≡ pos x +ℤ pos microsPerSecond *ℤ subℕ a b
-plus-times x a b h = go (ltb a b) refl
-  where
-    go : (t : Bool) → ltb a b ≡ t
-        → pos (x + microsPerSecond * a - microsPerSecond * b) ≡ pos x +ℤ pos microsPerSecond *ℤ cond t (negsuc (b - suc a)) (pos (a - b))
-    go true e =
-        let l = ltb-true a b e in
-        ap pos (omega arith) ∙ sym (plus-negative x (microsPerSecond * suc (b - suc a)) (omega arith))
-    go false e = let l = ltb-false a b e in ap pos (omega arith)
 
 -- (a + 1) - b is one more than a - b
 minus-more : (a b : ℕ) → subℕ (a + 1) b ≡ subℕ a b +ℤ pos 1
@@ -59,7 +44,10 @@ inserted-after s day t v i Ordinary h p q = absurd (omega arith)
 inserted-after s day t v i Inserted h p q =
     let up : firstDtai + tally Positive (leapsOf s) (day + 1) ≡ firstDtai + tally Positive (leapsOf s) day + 1 = omega arith in
     let down : tally Negative (leapsOf s) (day + 1) ≡ tally Negative (leapsOf s) day = omega arith in
-    ap₂ subℕ up down ∙ minus-more (firstDtai + tally Positive (leapsOf s) day) (tally Negative (leapsOf s) day)
+    dtai-tallied s (day + 1)
+    ∙ ap₂ subℕ up down
+    ∙ minus-more (firstDtai + tally Positive (leapsOf s) day) (tally Negative (leapsOf s) day)
+    ∙ ap (λ z. z +ℤ pos 1) (sym (dtai-tallied s day))
 inserted-after s day t v i Deleted h p q = absurd (omega arith)
 
 -- w, which is +1, -1 or 0 for the leap ending the day
@@ -74,12 +62,13 @@ minus-exact Inserted a b h = sym (plus-negative a (1 * b) (omega arith) ∙ ap p
 minus-exact Deleted a b h = rw (negℤ-negℤ (pos (1 * b))) (ap pos (omega arith))
 
 -- from MJD 41317 on under a well-formed schedule, TAI is 86,400,000,000 x (MJD - 41317) + UTC microseconds + 1,000,000 x DTAI
-pub tai-exact : (s : Schedule) (day t : ℕ) → wellFormed s ≡ true → firstDay ≤ day
-    → pos (tai s day t) ≡ pos (microsPerDay * (day - firstDay) + t) +ℤ pos microsPerSecond *ℤ dtai s day
-unfolding tai
+pub tai-exact : (s : Schedule) (day t : ℕ) → wellFormed s ≡ true → 41_317 ≤ day
+    → pos (tai s day t) ≡ pos 86_400_000_000 *ℤ (pos day -ℤ pos 41_317) +ℤ pos t +ℤ pos 1_000_000 *ℤ dtai s day
 tai-exact s day t w i =
-    plus-times (microsPerDay * (day - firstDay) + t) (firstDtai + tally Positive (leapsOf s) day) (tally Negative (leapsOf s) day)
+    ap pos (tai-tallied s day t i)
+    ∙ plus-times (microsPerDay * (day - firstDay) + t) (firstDtai + tally Positive (leapsOf s) day) (tally Negative (leapsOf s) day)
     (omega (arith, deleted-few s w day i))
+    ∙ ap₂ (λ x z. x +ℤ pos 1_000_000 *ℤ z) (sym (days-exact day t i)) (sym (dtai-tallied s day))
 
 -- within a day UTS is 1000 x t - w x (1,000,000,000 - R) where R < 1,000,000,000, else 1000 x t, for R = L - t
 pub uts-exact : (w : Ending) (t : ℕ) → t < dayLength w
@@ -94,7 +83,7 @@ uts-exact w t h = go (ltb (dayLength w - t) smoothing)
 
 -- in an inserted second TAI is still taken with the DTAI of that day, and the new one, from the next day on, is 1 more
 pub old-dtai-in-leap : (s : Schedule) (day t x : ℕ) → utcToTai s day t ≡ given x → microsPerDay ≤ t
-    → (pos x ≡ pos (microsPerDay * (day - firstDay) + t) +ℤ pos microsPerSecond *ℤ dtai s day) × (dtai s (day + 1) ≡ dtai s day +ℤ pos 1)
+    → (pos x ≡ pos 86_400_000_000 *ℤ (pos day -ℤ pos 41_317) +ℤ pos t +ℤ pos 1_000_000 *ℤ dtai s day) × (dtai s (day + 1) ≡ dtai s day +ℤ pos 1)
 old-dtai-in-leap s day t x h i =
     let k = on-utc s taiCutoff day t (tai s day t) x h in (
       ap pos (sym (k .is)) ∙ tai-exact s day t (k .well) (k .from),

@@ -17,7 +17,7 @@ use Rattle.schedule.proofs.Cases.{by-bool}
 use Rattle.clock.specs.Days.{microsPerDay, ending, dayLength, tai}
 use Rattle.clock.specs.Known.{lastDay, fullyKnown, taiCutoff, knownTo, taiEnd, knownTai}
 use Rattle.clock.specs.Question.{given, require, Utc, firstTai, utcToTai, dayOf, taiToUtc}
-use Rattle.clock.specs.Inner.{mostDtai, nearDay, onDay}
+use Rattle.clock.specs.Private.{mostDtai, nearDay, onDay}
 use Rattle.clock.proofs.Tai.{length-least, expires-later, ending-last, tai-low, tai-high, tai-in-day, tai-first, tai-next, tai-order, tai-rises}
 use Rattle.clock.proofs.Checks.{Sure, wholeTo, whole-open, whole-shut, whole-near, known-whole, known-before, known-last, known-after, known-sure, sure-through, pass, stop, on-utc, utc-answered, required, given-is}
 
@@ -177,7 +177,7 @@ module _ (s : Schedule) (w : wellFormed s ≡ true) where
       near-begun =
           elim (decLt x mostDtai) [
             | yes l ↦ let z : near ≡ firstDay = omega (arith, last-from) in rw z (omega (arith, tai-first s w))
-            | no l ↦ omega (arith, tai-high s w near)
+            | no l ↦ omega (arith, tai-high s w near near-from)
           ]
 
       is-day : (day : ℕ) → day ≤ lastDay s → tai s day 0 ≤ x → ((j : ℕ) → day < j → j ≤ lastDay s → x < tai s j 0) → day ≡ dayOf s x

@@ -1,8 +1,8 @@
--- Leaps in their order: how many are in effect on a day tells the tallies of the day, and those of the next.
+-- Leaps in their order: how many are in effect on a day tells its tallies, and how it ends.
 -- Assumes nothing.
 use mathlib.Core.Bool.{true, and-true}
 use mathlib.Core.List.{List, [], _∷_, _++_}
-use mathlib.Core.Logic.{⊎-elim}
+use mathlib.Core.Logic.{⊎-elim, _≢_}
 use mathlib.Core.Path.{_≡_, refl, sym, ap, _∙_}
 use Prim.Native.Nat.{ℕ, zero, suc, _+_, _-_, _≤_, _<_}
 use native.Mathlib.Decide.{decLt}
@@ -11,7 +11,7 @@ use native.Mathlib.Numerals.{add-one}
 use native.Mathlib.Omega.{arith}
 use lib.ListN.{length, getD, take}
 use lib.Seq.{take-nil, take-suc, length-take-le}
-use borrow.Author.Tests.{le-leb}
+use borrow.Author.Tests.{le-leb, ne-eqb, eq-eqb}
 use Rattle.calendar.specs.Calendar.{monthStart, InMonth}
 use Rattle.calendar.proofs.Laws.{start-zero, start-from, start-lt, start-le}
 use Rattle.schedule.specs.declared.Sign.{Sign}
@@ -22,8 +22,9 @@ use Rattle.schedule.specs.Schedule.{noLeap, leapsOf, gapsFit, wellFormed}
 use Rattle.schedule.specs.Extends.{sameSign}
 use Rattle.schedule.proofs.Gaps.{fits-lt, first, later, parts}
 use Rattle.clock.specs.declared.look.Survey.{Survey}
-use Rattle.clock.specs.Days.{count, tally}
-use Rattle.clock.specs.Inner.{ofSign, ByMonth, Lowered, Ahead, TalliedOn}
+use Rattle.clock.specs.declared.days.Ending.the-variants.{Ordinary}
+use Rattle.clock.specs.Days.{endingOf, endingBefore, ending}
+use Rattle.clock.specs.Private.{count, tally, ofSign, ByMonth, Lowered, Ahead, TalliedOn}
 use Rattle.clock.proofs.Leaps.{not-yet, tally-none}
 
 -- ---- leaps in their order
@@ -84,39 +85,48 @@ tally-placed sign (l ∷ ls) from expiry day (suc n) f p =
     rw (le-leb (monthStart (l .month)) day (p .begun 0 (omega arith)), and-true (sameSign sign (l .sign)))
     (ap (λ m. count (sameSign sign (l .sign)) + m) (tally-placed sign ls (l .month) expiry day n (later from l ls expiry f) rest))
 
--- the next day no leap takes effect, or the next one does
-pub placed-same : {ls : List Leap} {day n : ℕ} → Placed ls day n → (n < length ls → monthStart (leapMonth ls n) ≡ day + 1 → ⊥) → Placed ls (day + 1) n
-placed-same p ne =
-    record {
-      room = p .room;
-      begun = λ i h. omega (arith, p .begun i h);
-      not-begun = λ h. omega (arith, p .not-begun h, ne h);
-    }
+-- the leaps in effect on a day tell its tallies
+pub tally-by : (s : Schedule) → wellFormed s ≡ true → {day n : ℕ} → Placed (leapsOf s) day n → (sign : Sign) → tally sign (leapsOf s) day ≡ ofSign sign (take n (leapsOf s))
+tally-by s w {day} {n} here sign = tally-placed sign (leapsOf s) 0 (s .expiry) day n (parts s w .gaps) here
 
-pub placed-next : {ls : List Leap} {day n : ℕ} (expiry : ℕ) → gapsFit 0 ls expiry ≡ true → Placed ls day n → n < length ls → monthStart (leapMonth ls n) ≡ day + 1 → Placed ls (day + 1) (n + 1)
-placed-next {ls} {day} {n} expiry f p r e =
-    record {
-      room = omega arith;
-      begun = λ i h. elim (decLt i n) [
-        | yes l ↦ omega (arith, p .begun i l)
-        | no l ↦ let z : i ≡ n = omega arith in rw z (omega (arith, e))
-      ];
-      not-begun = λ h. omega (arith, e, start-lt (in-order ls 0 expiry f n (n + 1) (omega arith) h));
-    }
+-- ---- how the day ends
 
--- the leaps in effect on a day, and those on the next, tell the tallies of both
-pub tallied-by : (s : Schedule) → wellFormed s ≡ true → {day n m : ℕ} → Placed (leapsOf s) day n → Placed (leapsOf s) (day + 1) m
-    → (v : Survey) → v .up ≡ ofSign Positive (take n (leapsOf s)) → v .down ≡ ofSign Negative (take n (leapsOf s))
-    → v .upnext ≡ ofSign Positive (take m (leapsOf s)) → v .downnext ≡ ofSign Negative (take m (leapsOf s)) → TalliedOn s day v
-tallied-by s w {day} {n} {m} here next v eu ed fu fd =
-    let own : (sign : Sign) → tally sign (leapsOf s) day ≡ ofSign sign (take n (leapsOf s)) = λ sign. tally-placed sign (leapsOf s) 0 (s .expiry) day n (parts s w .gaps) here in
-    let after : (sign : Sign) → tally sign (leapsOf s) (day + 1) ≡ ofSign sign (take m (leapsOf s)) = λ sign. tally-placed sign (leapsOf s) 0 (s .expiry) (day + 1) m (parts s w .gaps) next in
-    record {
-      up = eu ∙ sym (own Positive);
-      down = ed ∙ sym (own Negative);
-      upNext = fu ∙ sym (after Positive);
-      downNext = fd ∙ sym (after Negative);
-    }
+-- the day before none of the leaps takes effect ends as usual
+ending-usual : (ls : List Leap) (next : ℕ) → ((i : ℕ) → i < length ls → monthStart (leapMonth ls i) ≢ next) → endingBefore ls next ≡ Ordinary
+ending-usual [] next h = refl
+ending-usual (l ∷ ls) next h =
+    rw (ne-eqb (monthStart (l .month)) next (h 0 (omega arith))) (ending-usual ls next (λ i k. h (suc i) (omega arith)))
+
+-- the day before one does ends with it
+ending-at : (ls : List Leap) (from expiry : ℕ) → gapsFit from ls expiry ≡ true → (n : ℕ) → n < length ls
+    → endingBefore ls (monthStart (leapMonth ls n)) ≡ endingOf (getD ls n noLeap .sign)
+ending-at [] from expiry f n h = absurd (not-suc-le-zero h)
+ending-at (l ∷ ls) from expiry f zero h = rw (eq-eqb (monthStart (l .month)) (monthStart (l .month)) refl)
+ending-at (l ∷ ls) from expiry f (suc n) h =
+    let rest = later from l ls expiry f in
+    let rise = start-lt (after-from ls (l .month) expiry rest n (le-of-suc-le-suc h)) in
+    rw (ne-eqb (monthStart (l .month)) (monthStart (leapMonth ls n)) (λ e. omega arith)) (ending-at ls (l .month) expiry rest n (le-of-suc-le-suc h))
+
+-- of the leaps on a day only the next one can take effect on the next day
+pub ending-same : (s : Schedule) → wellFormed s ≡ true → {day n : ℕ} → Placed (leapsOf s) day n
+    → (n < length (leapsOf s) → monthStart (leapMonth (leapsOf s) n) ≡ day + 1 → ⊥) → ending s day ≡ Ordinary
+ending-same s w {day} {n} p ne = ending-usual (leapsOf s) (day + 1) other
+  where
+    other : (i : ℕ) → i < length (leapsOf s) → monthStart (leapMonth (leapsOf s) i) ≢ day + 1
+    other i h e =
+        elim (decLt i n) [
+          | yes l ↦ omega (arith, p .begun i l)
+          | no l ↦
+              let o : n ≤ i = omega arith in
+              ⊎-elim (λ (z : n ≡ i). ne (omega arith) (rw z e))
+              (λ (k : n < i).
+              omega (arith, p .not-begun (omega arith), start-lt (in-order (leapsOf s) 0 (s .expiry) (parts s w .gaps) n i k h)))
+              (eq-or-lt-of-le o)
+        ]
+
+pub ending-next : (s : Schedule) → wellFormed s ≡ true → (day n : ℕ) → n < length (leapsOf s) → monthStart (leapMonth (leapsOf s) n) ≡ day + 1
+    → ending s day ≡ endingOf (getD (leapsOf s) n noLeap .sign)
+ending-next s w day n h e = rw (← e) (ending-at (leapsOf s) 0 (s .expiry) (parts s w .gaps) n h)
 
 -- ---- by the month of the day
 
@@ -186,18 +196,20 @@ module _ (s : Schedule) (w : wellFormed s ≡ true) (day month n down next : ℕ
   positives : ofSign Positive (take n (leapsOf s)) ≡ n - down
   positives = omega (arith, both-signs (take n (leapsOf s)), length-take-le n (leapsOf s) (p .room), l .sum)
 
+  tallied-by : (v : Survey) → v .up ≡ n - down → v .down ≡ down → v .ending ≡ ending s day → TalliedOn s day v
+  tallied-by v eu ed f =
+      record { up = eu ∙ sym (tally-by s w here Positive ∙ positives); down = ed ∙ l .sum ∙ sym (tally-by s w here Negative); ends = f }
+
   -- no leap takes effect on the next day
-  pub tallied-same : (monthStart next - 1 ≡ day → ⊥) → (v : Survey) → v .up ≡ n - down → v .down ≡ down → v .upnext ≡ n - down → v .downnext ≡ down → TalliedOn s day v
-  tallied-same ne v eu ed fu fd =
-      tallied-by s w here (placed-same here other) v (eu ∙ sym positives) (ed ∙ l .sum) (fu ∙ sym positives) (fd ∙ l .sum)
+  pub tallied-same : (monthStart next - 1 ≡ day → ⊥) → (v : Survey) → v .up ≡ n - down → v .down ≡ down → v .ending ≡ Ordinary → TalliedOn s day v
+  tallied-same ne v eu ed f = tallied-by v eu ed (f ∙ sym (ending-same s w here other))
     where
       other : n < length (leapsOf s) → monthStart (leapMonth (leapsOf s) n) ≡ day + 1 → ⊥
       other h e = let k : monthStart next ≡ day + 1 = sym (ap (λ l. monthStart (l .month)) (q .some h)) ∙ e in ne (omega arith)
 
   -- the next leap does
-  pub tallied-next : monthStart next - 1 ≡ day → (a b : ℕ) → a ≡ count (sameSign Positive sign) → b ≡ count (sameSign Negative sign)
-      → (v : Survey) → v .up ≡ n - down → v .down ≡ down → v .upnext ≡ n - down + a → v .downnext ≡ down + b → TalliedOn s day v
-  tallied-next e a b ea eb v eu ed fu fd =
+  pub tallied-next : monthStart next - 1 ≡ day → (v : Survey) → v .up ≡ n - down → v .down ≡ down → v .ending ≡ endingOf sign → TalliedOn s day v
+  tallied-next e v eu ed f =
       let some : n < length (leapsOf s) =
       elim (decLt n (length (leapsOf s))) [
         | yes k ↦ k
@@ -205,7 +217,4 @@ module _ (s : Schedule) (w : wellFormed s ≡ true) (day month n down next : ℕ
       ] in
       let leap = q .some some in
       let start : monthStart (leapMonth (leapsOf s) n) ≡ day + 1 = ap (λ l. monthStart (l .month)) leap ∙ omega (arith, e, start-from next) in
-      let more : (sign′ : Sign) → ofSign sign′ (take (n + 1) (leapsOf s)) ≡ ofSign sign′ (take n (leapsOf s)) + count (sameSign sign′ sign) =
-      λ sign′. rw leap at (of-sign-next sign′ (leapsOf s) n some) in
-      tallied-by s w here (placed-next (s .expiry) (parts s w .gaps) here some start) v (eu ∙ sym positives) (ed ∙ l .sum)
-      (omega (arith, fu, ea, more Positive, positives)) (omega (arith, fd, eb, more Negative, l .sum))
+      tallied-by v eu ed (f ∙ sym (ending-next s w day n some start ∙ ap (λ l. endingOf (l .sign)) leap))

@@ -2,24 +2,18 @@
 -- Assumes nothing.
 use mathlib.Core.Bool.{Bool, true, false, true≢false}
 use mathlib.Core.Path.{_≡_, sym, ap, _∙_}
-use Prim.Native.Nat.{ℕ, _+_, _-_, _≤_, _<_}
+use Prim.Native.Nat.{ℕ, _<_}
 use native.Mathlib.Omega.{arith}
-use borrow.Author.Tests.{lt-ltb, le-ltb}
 use Rattle.calendar.specs.Calendar.{endDay, monthAt}
 use Rattle.calendar.specs.declared.Lookup.{Lookup}
 use Rattle.calendar.proofs.Laws.{in-month, at-given}
-use Rattle.schedule.specs.declared.Sign.the-variants.{Positive, Negative}
 use Rattle.schedule.specs.declared.Schedule.{Schedule}
 use Rattle.schedule.specs.Schedule.{wellFormed}
-use Rattle.clock.specs.declared.days.Ending.{Ending}
-use Rattle.clock.specs.declared.days.Ending.the-variants.{Ordinary, Inserted, Deleted}
 use Rattle.clock.specs.declared.look.Survey.{Survey}
 use Rattle.clock.specs.declared.days.Day.{Day}
-use Rattle.clock.specs.Days.{ending}
 use Rattle.clock.specs.Known.{lastDay, knownTo, known}
-use Rattle.clock.specs.Inner.{Surveyed, SurveyedOn, endingBy, ListFor, DayFor, nearDay}
-use Rattle.clock.proofs.Leaps.{part}
-use Rattle.clock.proofs.Tai.{last-inside, tally-after}
+use Rattle.clock.specs.Private.{Surveyed, SurveyedOn, ListFor, DayFor, nearDay}
+use Rattle.clock.proofs.Tai.{last-inside}
 
 -- ---- a schedule that is not well formed
 pub not-well : (s : Schedule) (month day : ℕ) (v : Survey) → v .well ≡ false → wellFormed s ≡ false → Surveyed s month day v
@@ -27,33 +21,16 @@ not-well s month day v e h = record { well = e ∙ sym h; tallied = λ w. absurd
 
 -- ---- what a look for a day says of it
 
-pub ending-inserted : (v : Survey) → v .up < v .upnext → endingBy v ≡ Inserted
-ending-inserted v h = rw (lt-ltb (v .up) (v .upnext) h)
-
-pub ending-deleted : (v : Survey) → v .upnext ≤ v .up → v .down < v .downnext → endingBy v ≡ Deleted
-ending-deleted v h i = rw (le-ltb (v .up) (v .upnext) h, lt-ltb (v .down) (v .downnext) i)
-
-pub ending-ordinary : (v : Survey) → v .upnext ≤ v .up → v .downnext ≤ v .down → endingBy v ≡ Ordinary
-ending-ordinary v h i = rw (le-ltb (v .up) (v .upnext) h, le-ltb (v .down) (v .downnext) i)
-
--- the leaps that a day's end brings tell how it ends
-ending-told : (w : Ending) (v : Survey) → v .upnext ≡ v .up + part Positive w → v .downnext ≡ v .down + part Negative w → endingBy v ≡ w
-ending-told Ordinary v p q = ending-ordinary v (omega arith) (omega arith)
-ending-told Inserted v p q = ending-inserted v (omega arith)
-ending-told Deleted v p q = ending-deleted v (omega arith) (omega arith)
-
 -- what is found by a survey for a day
 pub day-surveyed : {s : Schedule} {day : ℕ} {v : Survey} → SurveyedOn s day v → (last : ℕ) → (wellFormed s ≡ true → last ≡ lastDay s)
-    → DayFor s day (record { well = v .well; up = v .up; down = v .down; ending = endingBy v; last = last })
+    → DayFor s day (record { well = v .well; up = v .up; down = v .down; ending = v .ending; last = last })
 day-surveyed {s} {day} {v} f last e =
     record {
       well = f .well;
       last = e;
       is = λ w p q.
           let t = f .tallied w p q in
-          let ends : endingBy v ≡ ending s day =
-          ending-told (ending s day) v (omega (arith, t .up, t .upNext, tally-after s w Positive day)) (omega (arith, t .down, t .downNext, tally-after s w Negative day)) in
-          rw (ends, f .well, t .up, t .down, e w);
+          rw (t .ends, f .well, t .up, t .down, e w);
     }
 
 -- a survey for a day of the month that the calendar's lookup gives is one for the day

@@ -20,8 +20,7 @@ use Rattle.schedule.specs.Schedule.{noLeap, leapsOf, wellFormed}
 use Rattle.schedule.specs.Extends.{sameSign}
 use Rattle.schedule.specs.WordLayout.{expiryWord, meant}
 use Rattle.schedule.proofs.Cases.{by-bool}
-use Rattle.clock.specs.Days.{count}
-use Rattle.clock.specs.Inner.{far, ofSign, Starts, Fenced, Tallies, Guesses, Prepared, Ready}
+use Rattle.clock.specs.Private.{count, far, ofSign, Starts, Fenced, Tallies, Guesses, Prepared, Ready}
 use Rattle.clock.proofs.LaidOut.{last-meant, full-meant}
 use Rattle.clock.proofs.Placed.{of-sign-next}
 

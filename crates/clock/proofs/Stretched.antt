@@ -1,29 +1,29 @@
--- The stretch of a prepared list that a day lies in tells the tallies of the day and of the next.
+-- The stretch of a prepared list that a day lies in tells the tallies of the day, and how it ends.
 -- Assumes nothing.
 use mathlib.Core.Bool.{true}
 use mathlib.Core.List.{List}
 use mathlib.Core.Logic.{⊎-elim}
-use mathlib.Core.Path.{_≡_, sym, _∙_}
+use mathlib.Core.Path.{_≡_, refl, sym, _∙_}
 use Prim.Native.Nat.{ℕ, zero, suc, _+_, _≤_, _<_, min}
 use native.Mathlib.Decide.{decLt}
 use native.Mathlib.Nat.{not-suc-le-zero, le-of-suc-le-suc, eq-or-lt-of-le}
 use native.Mathlib.Numerals.{add-one}
 use native.Mathlib.Omega.{arith}
-use lib.Dec.{eqb}
 use lib.ListN.{length, getD}
-use borrow.Author.Tests.{eqb-true, eqb-false}
 use Rattle.calendar.specs.Calendar.{endDay, monthStart}
 use Rattle.calendar.proofs.Laws.{start-lt}
+use Rattle.schedule.specs.declared.Sign.{Sign}
 use Rattle.schedule.specs.declared.Sign.the-variants.{Positive, Negative}
 use Rattle.schedule.specs.declared.Schedule.{Schedule}
-use Rattle.schedule.specs.Schedule.{leapsOf, wellFormed}
-use Rattle.schedule.proofs.Cases.{by-bool}
+use Rattle.schedule.specs.Schedule.{noLeap, leapsOf, wellFormed}
+use Rattle.schedule.specs.Extends.{sameSign}
 use Rattle.schedule.proofs.Gaps.{parts}
-use Rattle.clock.specs.declared.look.Survey.{Survey}
+use Rattle.clock.specs.declared.days.Ending.the-variants.{Ordinary, Inserted, Deleted}
 use Rattle.clock.specs.declared.days.Day.{Day}
+use Rattle.clock.specs.Days.{endingOf, ending}
 use Rattle.clock.specs.Known.{lastDay}
-use Rattle.clock.specs.Inner.{TalliedOn, SurveyedOn, ListFor, DayFor, Starts, Tallies, Stretch, Prepared}
-use Rattle.clock.proofs.Placed.{leapMonth, in-order, Placed, placed-same, placed-next, tallied-by}
+use Rattle.clock.specs.Private.{count, tally, ListFor, DayFor, Starts, Tallies, Stretch, Prepared}
+use Rattle.clock.proofs.Placed.{leapMonth, in-order, of-sign-next, Placed, tally-by, ending-same, ending-next}
 
 -- ---- by the days on which the leaps of a well-formed schedule take effect
 
@@ -58,8 +58,8 @@ module _ (s : Schedule) (w : wellFormed s ≡ true) (full : length (leapsOf s) �
       record { room = omega arith; begun = leaps-begun (q .begun) r; not-begun = λ h. omega (arith, q .not-over, p .leaps n (omega arith)) }
 
   -- the next day lies in the same stretch, or a leap takes effect on it
-  stays : Stretch starts day n → (getD starts (n + 1) 0 ≡ day + 1 → ⊥) → Placed (leapsOf s) (day + 1) n
-  stays q ne = placed-same (placed q) (λ h e. ne (p .leaps n (omega arith) ∙ e))
+  stays : Stretch starts day n → (getD starts (n + 1) 0 ≡ day + 1 → ⊥) → ending s day ≡ Ordinary
+  stays q ne = ending-same s w (placed q) (λ h e. ne (p .leaps n (omega arith) ∙ e))
 
   starts-next : Stretch starts day n → getD starts (n + 1) 0 ≡ day + 1 → n < s .count
   starts-next q e =
@@ -68,37 +68,57 @@ module _ (s : Schedule) (w : wellFormed s ≡ true) (full : length (leapsOf s) �
         | no l ↦ absurd (omega (arith, p .beyond n (omega arith) (q .room)))
       ]
 
-  steps : Stretch starts day n → getD starts (n + 1) 0 ≡ day + 1 → Placed (leapsOf s) (day + 1) (n + 1)
-  steps q e =
-      let r = starts-next q e in
-      placed-next (s .expiry) (parts s w .gaps) (placed q) (omega arith) (sym (p .leaps n r) ∙ e)
+  steps : Stretch starts day n → getD starts (n + 1) 0 ≡ day + 1 → ending s day ≡ endingOf (getD (leapsOf s) n noLeap .sign)
+  steps q e = let r = starts-next q e in ending-next s w day n (omega arith) (sym (p .leaps n r) ∙ e)
 
-  placed-after : Stretch starts day n → (m : ℕ) → (getD starts (n + 1) 0 ≡ day + 1 → m ≡ n + 1) → ((getD starts (n + 1) 0 ≡ day + 1 → ⊥) → m ≡ n) → Placed (leapsOf s) (day + 1) m
-  placed-after q m step stay =
-      by-bool (eqb (getD starts (n + 1) 0) (day + 1))
-      (λ t. let e = eqb-true (getD starts (n + 1) 0) (day + 1) t in rw (step e) (steps q e))
-      (λ t. let e = eqb-false (getD starts (n + 1) 0) (day + 1) t in rw (stay e) (stays q e))
+  -- the positive leaps by then and by the next stretch tell the sign of the leap between
+  rises : Stretch starts day n → getD starts (n + 1) 0 ≡ day + 1 → (ups : List ℕ) → Tallies s Positive ups
+      → getD ups (n + 1) 0 ≡ getD ups n 0 + count (sameSign Positive (getD (leapsOf s) n noLeap .sign))
+  rises q e ups r =
+      let k = starts-next q e in
+      omega (arith, r .of-first n (omega arith), r .of-first (n + 1) (omega arith), of-sign-next Positive (leapsOf s) n (omega arith))
 
-  -- the tallies of the stretch of a day, and of the next day's, are those of a survey for the day
-  tallied-in : Stretch starts day n → (m : ℕ) → (getD starts (n + 1) 0 ≡ day + 1 → m ≡ n + 1) → ((getD starts (n + 1) 0 ≡ day + 1 → ⊥) → m ≡ n)
-      → (ups downs : List ℕ) → Tallies s Positive ups → Tallies s Negative downs
-      → (v : Survey) → v .up ≡ getD ups n 0 → v .down ≡ getD downs n 0 → v .upnext ≡ getD ups m 0 → v .downnext ≡ getD downs m 0 → TalliedOn s day v
-  tallied-in q m step stay ups downs r l v eu ed fu fd =
-      let here = placed q in
-      let next = placed-after q m step stay in
-      let i : n ≤ s .count = omega (arith, here .room) in
-      let j : m ≤ s .count = omega (arith, next .room) in
-      tallied-by s w here next v (eu ∙ r .of-first n i) (ed ∙ l .of-first n i) (fu ∙ r .of-first m j) (fd ∙ l .of-first m j)
+-- a leap that raises the positive ones is positive, and another one negative
+raised : (sign : Sign) (a b : ℕ) → b ≡ a + count (sameSign Positive sign) → a < b → endingOf sign ≡ Inserted
+raised Positive a b e l = refl
+raised Negative a b e l = absurd (omega arith)
 
-pub surveyed-in : {s : Schedule} {last : ℕ} {starts ups downs : List ℕ} → Prepared s last starts ups downs → (day n m : ℕ) → day < endDay → Stretch starts day n
-    → (getD starts (n + 1) 0 ≡ day + 1 → m ≡ n + 1) → ((getD starts (n + 1) 0 ≡ day + 1 → ⊥) → m ≡ n)
-    → (v : Survey) → v .well ≡ true → v .up ≡ getD ups n 0 → v .down ≡ getD downs n 0 → v .upnext ≡ getD ups m 0 → v .downnext ≡ getD downs m 0
-    → SurveyedOn s day v
-surveyed-in {s} {starts = starts} {ups} {downs} p day n m d q step stay v ew eu ed fu fd =
-    record {
-      well = ew ∙ sym (p .well);
-      tallied = λ w f l. tallied-in s w (p .full) starts (p .starting) day n d q m step stay ups downs (p .raised) (p .lowered) v eu ed fu fd;
-    }
+not-raised : (sign : Sign) (a b : ℕ) → b ≡ a + count (sameSign Positive sign) → b ≤ a → endingOf sign ≡ Deleted
+not-raised Positive a b e l = absurd (omega arith)
+not-raised Negative a b e l = refl
+
+-- how a day in a stretch of a prepared list ends
+module _ {s : Schedule} {last : ℕ} {starts ups downs : List ℕ} (p : Prepared s last starts ups downs) {day n : ℕ} (d : day < endDay) (q : Stretch starts day n) where
+  pub usual-in : (getD starts (n + 1) 0 ≡ day + 1 → ⊥) → Ordinary ≡ ending s day
+  usual-in ne = sym (stays s (p .well) (p .full) starts (p .starting) day n d q ne)
+
+  abbrev sign : Sign
+  sign = getD (leapsOf s) n noLeap .sign
+
+  ends-with : getD starts (n + 1) 0 ≡ day + 1 → ending s day ≡ endingOf sign
+  ends-with e = steps s (p .well) (p .full) starts (p .starting) day n d q e
+
+  risen : getD starts (n + 1) 0 ≡ day + 1 → getD ups (n + 1) 0 ≡ getD ups n 0 + count (sameSign Positive sign)
+  risen e = rises s (p .well) (p .full) starts (p .starting) day n d q e ups (p .raised)
+
+  pub inserted-in : getD starts (n + 1) 0 ≡ day + 1 → getD ups n 0 < getD ups (n + 1) 0 → Inserted ≡ ending s day
+  inserted-in e l = sym (ends-with e ∙ raised sign (getD ups n 0) (getD ups (n + 1) 0) (risen e) l)
+
+  pub deleted-in : getD starts (n + 1) 0 ≡ day + 1 → getD ups (n + 1) 0 ≤ getD ups n 0 → Deleted ≡ ending s day
+  deleted-in e l = sym (ends-with e ∙ not-raised sign (getD ups n 0) (getD ups (n + 1) 0) (risen e) l)
+
+  -- and what the list says of the day
+  pub day-in-stretch : (k : Day) → k .well ≡ true → k .up ≡ getD ups n 0 → k .down ≡ getD downs n 0 → k .ending ≡ ending s day → k .last ≡ last → DayFor s day k
+  day-in-stretch k ew eu ed ee el =
+      let here = placed s (p .well) (p .full) starts (p .starting) day n d q in
+      let room : n ≤ s .count = omega (arith, here .room, p .full) in
+      let up : k .up ≡ tally Positive (leapsOf s) day = eu ∙ p .raised .of-first n room ∙ sym (tally-by s (p .well) here Positive) in
+      let down : k .down ≡ tally Negative (leapsOf s) day = ed ∙ p .lowered .of-first n room ∙ sym (tally-by s (p .well) here Negative) in
+      record {
+        well = ew ∙ sym (p .well);
+        last = λ w. el ∙ p .is-last;
+        is = λ w a b. rw (ew ∙ sym (p .well), up, down, ee, el ∙ p .is-last);
+      }
 
 -- a day up to the last one is asked about as it is
 pub day-for-near : {s : Schedule} {last day : ℕ} {k : Day} → last ≡ lastDay s → DayFor s (min day last) k → DayFor s day k

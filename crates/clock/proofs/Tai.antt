@@ -18,10 +18,11 @@ use Rattle.schedule.specs.Extends.{sameSign}
 use Rattle.schedule.proofs.Gaps.{parts, before-end}
 use Rattle.clock.specs.declared.days.Ending.{Ending}
 use Rattle.clock.specs.declared.days.Ending.the-variants.{Ordinary, Inserted, Deleted}
-use Rattle.clock.specs.Days.{microsPerDay, longDay, shortDay, count, tally, ending, dayLength, tai}
+use Rattle.clock.specs.Days.{microsPerDay, longDay, shortDay, ending, dayLength, tai}
 use Rattle.clock.specs.Known.{lastDay}
 use Rattle.clock.specs.Question.{firstTai}
-use Rattle.clock.specs.Inner.{mostDtai}
+use Rattle.clock.specs.Private.{count, tally, mostDtai}
+use Rattle.clock.proofs.Tallied.{tai-tallied}
 use Rattle.clock.proofs.Leaps.{ending-none, tally-none, tally-next, part}
 
 -- however a day ends, it has 86,399 to 86,401 s
@@ -89,32 +90,28 @@ module _ (s : Schedule) (w : wellFormed s ≡ true) where
 
   -- however many leaps there are, DTAI is between -246 and 266
   pub tai-low : (day : ℕ) → firstDay ≤ day → microsPerDay * (day - firstDay) ≤ tai s day 0 + 246_000_000
-  unfolding tai
-  tai-low day i = omega (arith, deleted-few day i, tally-few Negative day)
+  tai-low day i = omega (arith, tai-tallied s day 0 i, deleted-few day i, tally-few Negative day)
 
-  pub tai-high : (day : ℕ) → tai s day 0 ≤ microsPerDay * (day - firstDay) + mostDtai
-  unfolding tai
-  tai-high day = omega (arith, tally-few Positive day)
+  pub tai-high : (day : ℕ) → firstDay ≤ day → tai s day 0 ≤ microsPerDay * (day - firstDay) + mostDtai
+  tai-high day i = omega (arith, tai-tallied s day 0 i, tally-few Positive day)
 
   -- TAI counts the day's microseconds
   pub tai-in-day : (day t : ℕ) → firstDay ≤ day → tai s day t ≡ tai s day 0 + t
-  unfolding tai
-  tai-in-day day t i = omega (arith, deleted-few day i)
+  tai-in-day day t i = omega (arith, tai-tallied s day t i, tai-tallied s day 0 i, deleted-few day i)
 
   pub tai-first : tai s firstDay 0 ≡ firstTai
-  unfolding tai
-  tai-first = omega (arith, tally-first Positive, tally-first Negative)
+  tai-first = omega (arith, tai-tallied s firstDay 0 (omega arith), tally-first Positive, tally-first Negative)
 
   -- a day's TAI begins where the TAI of the day before ends
   pub tai-next : (day : ℕ) → firstDay ≤ day → tai s (day + 1) 0 ≡ tai s day 0 + dayLength (ending s day)
-  unfolding tai
   tai-next day i = go (ending s day) (tally-after Positive day) (tally-after Negative day)
     where
       go : (e : Ending) → tally Positive (leapsOf s) (day + 1) ≡ tally Positive (leapsOf s) day + part Positive e
           → tally Negative (leapsOf s) (day + 1) ≡ tally Negative (leapsOf s) day + part Negative e → tai s (day + 1) 0 ≡ tai s day 0 + dayLength e
-      go Ordinary p q = omega (arith, deleted-few day i)
-      go Inserted p q = omega (arith, deleted-few day i)
-      go Deleted p q = omega (arith, deleted-few day i, deleted-few (day + 1) (omega arith))
+      go Ordinary p q = omega (arith, tai-tallied s day 0 i, tai-tallied s (day + 1) 0 (omega arith), deleted-few day i)
+      go Inserted p q = omega (arith, tai-tallied s day 0 i, tai-tallied s (day + 1) 0 (omega arith), deleted-few day i)
+      go Deleted p q =
+          omega (arith, tai-tallied s day 0 i, tai-tallied s (day + 1) 0 (omega arith), deleted-few day i, deleted-few (day + 1) (omega arith))
 
   -- k days later it is later
   tai-later : (day k : ℕ) → firstDay ≤ day → tai s day 0 + shortDay * k ≤ tai s (day + k) 0

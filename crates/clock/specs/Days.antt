@@ -1,17 +1,16 @@
 -- "Months, days and the schedule" and "Times": DTAI, how a day ends, how long it is, and TAI.
 -- Assumes nothing: these are definitions.
-use mathlib.Core.Bool.{Bool, true, false, cond, _&&_}
+use mathlib.Core.Bool.{Bool, cond}
 use mathlib.Core.List.{List, [], _∷_}
-use Prim.Native.Nat.{ℕ, _+_, _-_, _*_}
+use Prim.Native.Nat.{ℕ, _+_}
 use lib.Dec.{leb, eqb}
-use lib.IntN.{ℤ, subℕ}
+use lib.IntN.{ℤ, pos, negsuc, negℤ, _+ℤ_, _-ℤ_, _*ℤ_}
 use Rattle.calendar.specs.Calendar.{firstDay, monthStart}
 use Rattle.schedule.specs.declared.Sign.{Sign}
 use Rattle.schedule.specs.declared.Sign.the-variants.{Positive, Negative}
 use Rattle.schedule.specs.declared.Leap.{Leap}
 use Rattle.schedule.specs.declared.Schedule.{Schedule}
 use Rattle.schedule.specs.Schedule.{leapsOf}
-use Rattle.schedule.specs.Extends.{sameSign}
 use Rattle.clock.specs.declared.days.Ending.{Ending}
 use Rattle.clock.specs.declared.days.Ending.the-variants.{Ordinary, Inserted, Deleted}
 
@@ -38,20 +37,20 @@ firstDtai = 10
 abbrev pub inEffect : Leap → ℕ → Bool
 inEffect l day = leb (monthStart (l .month)) day
 
--- 1 where a test passes, else 0
-abbrev pub count : Bool → ℕ
-count true = 1
-count false = 0
+-- the second that a leap of the sign adds to DTAI: 1, or -1, which takes one away
+abbrev pub secondOf : Sign → ℤ
+secondOf Positive = pos 1
+secondOf Negative = negℤ (pos 1)
 
--- how many leaps of a sign are in effect on a day
-abbrev pub tally : Sign → List Leap → ℕ → ℕ
-tally sign [] day = 0
-tally sign (l ∷ ls) day = count (sameSign sign (l .sign) && inEffect l day) + tally sign ls day
+-- what the leaps add by a day, each from the first day of its month on
+abbrev pub leapSeconds : List Leap → ℕ → ℤ
+leapSeconds [] day = pos 0
+leapSeconds (l ∷ ls) day = cond (inEffect l day) (secondOf (l .sign)) (pos 0) +ℤ leapSeconds ls day
 
--- "DTAI", TAI minus UTC on a day in seconds: 10, and each positive leap in effect adds 1 and each negative one takes 1 away
--- (subℕ a b is the integer a - b)
-abbrev pub dtai : Schedule → ℕ → ℤ
-dtai s day = subℕ (firstDtai + tally Positive (leapsOf s) day) (tally Negative (leapsOf s) day)
+-- "DTAI", TAI minus UTC on a day in seconds: 10 from MJD 41317; each positive leap adds 1 and each negative one takes 1 away, from the
+-- first day of its month
+unfoldable pub dtai : Schedule → ℕ → ℤ
+dtai s day = pos firstDtai +ℤ leapSeconds (leapsOf s) day
 
 -- how a day ends at whose end a leap of the sign happens
 abbrev pub endingOf : Sign → Ending
@@ -73,9 +72,12 @@ dayLength Ordinary = microsPerDay
 dayLength Inserted = longDay
 dayLength Deleted = shortDay
 
+-- an integer as a natural number, and 0 where it is below zero
+abbrev pub natural : ℤ → ℕ
+natural (pos n) = n
+natural (negsuc n) = 0
+
 -- TAI, microseconds from 1972-01-01 00:00:00 TAI: 86,400,000,000 x (MJD - 41317) + UTC microseconds + 1,000,000 x DTAI.
--- It is computed in ℕ; `tai-exact` shows that it is that integer, and nothing is cut off.
+-- From MJD 41317 on under a well-formed schedule it is that integer itself: none is below zero (`tai-exact`).
 unfoldable pub tai : Schedule → ℕ → ℕ → ℕ
-tai s day t =
-    microsPerDay * (day - firstDay) + t + microsPerSecond * (firstDtai + tally Positive (leapsOf s) day)
-    - microsPerSecond * tally Negative (leapsOf s) day
+tai s day t = natural (pos microsPerDay *ℤ (pos day -ℤ pos firstDay) +ℤ pos t +ℤ pos microsPerSecond *ℤ dtai s day)

@@ -8,7 +8,7 @@ ghost use Rattle.clock.specs.Question.{atDate};
 ghost use mathlib.Core.Bool.{true};
 ghost use Rattle.schedule.specs.Schedule.{wellFormed};
 ghost use Rattle.schedule.specs.WordLayout.{meant};
-ghost use Rattle.clock.specs.Inner.{SurveyedOn, endingBy, dayOn, ListFor, DayFor, told};
+ghost use Rattle.clock.specs.Private.{SurveyedOn, dayOn, ListFor, DayFor, told};
 use crate::inplace::look_at;
 use crate::look::Survey;
 use crate::look::look;
@@ -76,24 +76,11 @@ pub(crate) fn day_before(expiry: u32) -> u64
     (expiry - 1) as u64
 }
 
-// How a day ends, by the leaps in effect on it and on the next day.
-fn ending_by(v: Survey) -> Ending
-    ensures { λ r. ⌜ r ≡ endingBy v ⌝ }
-{
-    if v.up < v.upnext {
-        return Ending::Inserted;
-    }
-    if v.down < v.downnext {
-        return Ending::Deleted;
-    }
-    Ending::Ordinary
-}
-
 // What a schedule says of a day, by a look at it for the day, and its last day.
 pub(crate) fn day_by(v: Survey, last: u64) -> Day
     ensures { λ r. ⌜ ((s : Schedule) (day : ℕ) → SurveyedOn s day v → (wellFormed s ≡ true → last ≡ lastDay s) → DayFor s day r) ⌝ }
 {
-    let ending = ending_by(v);
+    let ending = v.ending;
     Day {
         well: v.well,
         up: v.up,

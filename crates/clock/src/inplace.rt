@@ -4,7 +4,7 @@ ghost use mathlib.Core.Bool.{true};
 ghost use Prim.Native.Nat.{_≤_};
 ghost use Rattle.schedule.specs.Schedule.{leapsOf, wellFormed};
 ghost use Rattle.schedule.specs.WordLayout.{signOf, meant};
-ghost use Rattle.clock.specs.Inner.{ByMonth, Lowered, Surveyed};
+ghost use Rattle.clock.specs.Private.{ByMonth, Lowered, Surveyed};
 use crate::look::Survey;
 use crate::look::malformed;
 use crate::look::survey_by;

@@ -4,7 +4,7 @@ ghost use Prim.Native.Nat.{_≤_};
 ghost use Rattle.clock.specs.Days.{shortDay};
 ghost use Rattle.clock.specs.Known.{fullyKnown, knownTo};
 ghost use Rattle.clock.specs.Question.{given, atInstant, atUtc};
-ghost use Rattle.clock.specs.Inner.{ListFor, DayFor, told};
+ghost use Rattle.clock.specs.Private.{ListFor, DayFor, told};
 use crate::days::Day;
 use crate::days::LONG_DAY;
 use crate::days::SHORT_DAY;

@@ -1,4 +1,4 @@
-// One look at a schedule for a day: whether it is well formed, and how many leaps of each sign are in effect on the day and on the next.
+// One look at a schedule for a day: whether it is well formed, how many leaps of each sign are in effect on the day, and how it ends.
 // The functions here that read the places have one caller each, so that they can be compiled into it with no copy of the schedule.
 ghost use mathlib.Core.Path.{_≡_};
 ghost use mathlib.Core.Bool.{true, false};
@@ -8,19 +8,19 @@ ghost use Rattle.calendar.specs.Calendar.{lastMonth, InMonth};
 ghost use Rattle.schedule.specs.declared.Schedule.{Schedule};
 ghost use Rattle.schedule.specs.Schedule.{maxLeaps, leapsOf, wellFormed};
 ghost use Rattle.schedule.specs.Extends.{sameSign};
-ghost use Rattle.schedule.specs.declared.Sign.the-variants.{Positive, Negative};
-ghost use Rattle.clock.specs.Days.{count};
-ghost use Rattle.clock.specs.Inner.{ByMonth, Lowered, Ahead, TalliedOn, Surveyed};
+ghost use Rattle.schedule.specs.declared.Sign.the-variants.{Negative};
+ghost use Rattle.clock.specs.Days.{endingOf};
+ghost use Rattle.clock.specs.Private.{count, ByMonth, Lowered, Ahead, TalliedOn, Surveyed};
+use crate::days::Ending;
 use schedule::Schedule;
 use schedule::Sign;
 
-// Whether a schedule is well formed, and how many leaps of each sign are in effect on a day and on the next.
+// Whether a schedule is well formed, how many leaps of each sign are in effect on a day, and how the day ends.
 pub(crate) struct Survey {
     pub(crate) well: bool,
     pub(crate) up: u16,
     pub(crate) down: u16,
-    pub(crate) upnext: u16,
-    pub(crate) downnext: u16,
+    pub(crate) ending: Ending,
 }
 
 pub(crate) fn wide(x: u16) -> u32
@@ -29,13 +29,13 @@ pub(crate) fn wide(x: u16) -> u32
     x as u32
 }
 
-// 1 for a positive leap, else 0.
-fn adds(sign: Sign) -> u16
-    ensures { λ r. ⌜ (r ≡ count (sameSign Positive sign)) × (r ≤ 1) ⌝ }
+// How a day ends at whose end a leap of the sign happens.
+fn ending_of(sign: Sign) -> Ending
+    ensures { λ r. ⌜ r ≡ endingOf sign ⌝ }
 {
     match sign {
-        Sign::Positive => 1,
-        Sign::Negative => 0,
+        Sign::Positive => Ending::Inserted,
+        Sign::Negative => Ending::Deleted,
     }
 }
 
@@ -56,12 +56,11 @@ pub(crate) fn malformed() -> Survey
         well: false,
         up: 0,
         down: 0,
-        upnext: 0,
-        downnext: 0,
+        ending: Ending::Ordinary,
     }
 }
 
-// The tallies of a day at whose month, or before it, n leaps lie, `down` of them negative; the next leap has that month and sign, and month 0
+// The survey of a day at whose month, or before it, n leaps lie, `down` of them negative; the next leap has that month and sign, and month 0
 // stands for none.
 pub(crate) fn survey_by(n: usize, down: u32, next: u16, sign: Sign, day: u64) -> Survey
     requires { ⌜ (n ≤ maxLeaps) × (down ≤ n) × (next ≤ lastMonth) ⌝ }
@@ -75,16 +74,14 @@ pub(crate) fn survey_by(n: usize, down: u32, next: u16, sign: Sign, day: u64) ->
             well: true,
             up,
             down: lowered,
-            upnext: up + adds(sign),
-            downnext: lowered + takes(sign),
+            ending: ending_of(sign),
         };
     }
     Survey {
         well: true,
         up,
         down: lowered,
-        upnext: up,
-        downnext: lowered,
+        ending: Ending::Ordinary,
     }
 }
 

@@ -12,7 +12,7 @@ ghost use Rattle.clock.specs.Question.{dtaiOn, utcToTai, taiToUtc, utcTo
 ghost use Rattle.clock.specs.Answers.{HandsValue};
 ghost use Rattle.refusals.specs.Refusals.{notWellFormed};
 ghost use Rattle.clock.specs.Many.{filled, answerAt, answersAt};
-ghost use Rattle.clock.specs.Inner.{Prepared, Ready, Fills, FillsUtc};
+ghost use Rattle.clock.specs.Private.{Prepared, Ready, Fills, FillsUtc};
 use crate::answers::dtai_number;
 use crate::answers::dtai_value;
 use crate::answers::micros_number;

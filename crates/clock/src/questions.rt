@@ -8,7 +8,7 @@ ghost use Rattle.clock.specs.Known.{utsCutoff, nanosCutoff};
 ghost use Rattle.clock.specs.Question.{dtaiOn, utcToTai, taiToUtc, utcToUts, utsToUtc};
 ghost use Rattle.clock.specs.Answers.{dtaiAnswer, taiAnswer, utcAnswer, utsAnswer, microsAnswer};
 ghost use Rattle.schedule.specs.declared.Schedule.{Schedule};
-ghost use Rattle.clock.specs.Inner.{ListFor, DayFor, Said, nearDay, onDay};
+ghost use Rattle.clock.specs.Private.{ListFor, DayFor, Said, nearDay, onDay};
 use crate::DtaiAnswer;
 use crate::MicrosAnswer;
 use crate::TaiAnswer;

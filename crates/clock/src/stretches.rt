@@ -2,19 +2,19 @@
 // From one such day to the next is a stretch, in which DTAI is the same.
 ghost use mathlib.Core.Path.{_≡_};
 ghost use mathlib.Core.Bool.{true};
-ghost use Prim.Native.Nat.{_+_, _≤_, _<_};
+ghost use mathlib.Core.List.{List};
+ghost use Prim.Native.Nat.{ℕ, _+_, _≤_, _<_};
 ghost use lib.ListN.{getD};
 ghost use Rattle.calendar.specs.Calendar.{endDay};
 ghost use Rattle.schedule.specs.declared.Schedule.{Schedule};
 ghost use Rattle.schedule.specs.Schedule.{wellFormed};
 ghost use Rattle.schedule.specs.WordLayout.{signOf, meant};
 ghost use Rattle.schedule.specs.Extends.{sameSign};
-ghost use Rattle.clock.specs.Days.{count};
-ghost use Rattle.clock.specs.Inner.{DayFor, Stretch, Starts, Tallies, Fenced, Guesses, Prepared};
+ghost use Rattle.clock.specs.Days.{ending};
+ghost use Rattle.clock.specs.Private.{count, DayFor, Stretch, Starts, Tallies, Fenced, Guesses, Prepared};
 use crate::days::Day;
-use crate::days::day_by;
+use crate::days::Ending;
 use crate::inplace::leaps_in;
-use crate::look::Survey;
 use crate::questions::smaller;
 use schedule::Sign;
 
@@ -111,6 +111,21 @@ pub(crate) fn guesses_of(starts: &[u64; 258], last: u64) -> [u16; 894]
     guesses
 }
 
+// How a day of the stretch at a place ends: as usual, if the next stretch does not start on the next day; else by the sign of the leap that
+// starts it, which is positive if it adds to the positive ones.
+fn ending_in(starts: &[u64; 258], ups: &[u16; 258], at: usize, day: u64) -> Ending
+    requires { ⌜ Stretch (now starts) day at × (day < endDay) ⌝ }
+    ensures { λ r. ⌜ ((s : Schedule) (last : ℕ) (downs : List ℕ) → Prepared s last (now (starts .entry)) (now (ups .entry)) downs → r ≡ ending s day) ⌝ }
+{
+    if starts[at + 1] != day + 1 {
+        return Ending::Ordinary;
+    }
+    if ups[at] < ups[at + 1] {
+        return Ending::Inserted;
+    }
+    Ending::Deleted
+}
+
 // What a prepared list says of a day. A day after the last one gets what is said of that, and only `last` means something then.
 pub(crate) fn found(
     starts: &[u64; 258],
@@ -126,25 +141,12 @@ pub(crate) fn found(
     let near = smaller(day, last);
     let guess = guesses[(near / SPAN) as usize];
     let at = walk(starts, step(starts, guess as usize, near), near);
-    let up = ups[at];
-    let down = downs[at];
-    // Seldom a leap takes effect on the next day.
-    if starts[at + 1] == near + 1 {
-        let v = Survey {
-            well: true,
-            up,
-            down,
-            upnext: ups[at + 1],
-            downnext: downs[at + 1],
-        };
-        return day_by(v, last);
-    }
-    let v = Survey {
+    let ending = ending_in(starts, ups, at, near);
+    Day {
         well: true,
-        up,
-        down,
-        upnext: up,
-        downnext: down,
-    };
-    day_by(v, last)
+        up: ups[at],
+        down: downs[at],
+        ending,
+        last,
+    }
 }

@@ -32,7 +32,7 @@ unfolding date
 last-date = by-month 114_366 2400 1 (late-month (omega arith)) (omega (arith, start-last))
 
 ten : (s : Schedule) → leapsOf s ≡ [] → withSign (dtai s 41_317) ≡ ascii "+10"
-unfolding decimal digitsIn
+unfolding dtai decimal digitsIn
 ten s e = rw e
 
 -- a list without leaps is shown as its one stretch, from 1972-01-01 to the day before its expiry, and its expiry

@@ -1,6 +1,6 @@
 -- What a stretch shows holds on each of its days. Assumes nothing.
 use mathlib.Core.Bool.{true}
-use mathlib.Core.Path.{_≡_, refl, sym, _∙_}
+use mathlib.Core.Path.{_≡_, refl, sym, ap, _∙_}
 use mathlib.Core.List.{List, [], _∷_, _++_, append-assoc}
 use Prim.Native.Nat.{ℕ, _+_, _≤_, _<_}
 use native.Mathlib.Omega.{arith}
@@ -14,7 +14,9 @@ use Rattle.schedule.specs.declared.Leap.{Leap}
 use Rattle.schedule.specs.declared.Schedule.{Schedule}
 use Rattle.schedule.specs.Schedule.{leapsOf, gapsFit, wellFormed}
 use Rattle.schedule.proofs.Gaps.{fits-lt, first, later, before-end, parts}
-use Rattle.clock.specs.Days.{tally, dtai}
+use Rattle.clock.specs.Days.{dtai}
+use Rattle.clock.specs.Private.{tally}
+use Rattle.clock.proofs.Tallied.{dtai-tallied}
 use Rattle.clock.specs.Known.{lastDay}
 use Rattle.clock.specs.Question.{dtaiOn, given, refused}
 use Rattle.clock.proofs.Checks.{pass}
@@ -75,7 +77,7 @@ module _ (s : Schedule) (w : wellFormed s ≡ true) where
   same done rest from to e u h none f day a b =
       let kept : (sign : Sign) → tally sign (leapsOf s) day ≡ tally sign (leapsOf s) (monthStart from)
       = λ sign. rw e (stays sign done rest from day u a (none sign day b) (none sign (monthStart from) (omega arith))) in
-      known day (omega (arith, start-from from)) (omega arith) ∙ rw (kept Positive, kept Negative)
+      known day (omega (arith, start-from from)) (omega arith) ∙ ap given (rw (dtai-tallied s day, dtai-tallied s (monthStart from), kept Positive, kept Negative))
 
   go : (done ls : List Leap) (from : ℕ) → leapsOf s ≡ done ++ ls → Until from done → gapsFit from ls (s .expiry) ≡ true → EachSame s (monthStart from) ls
   go done [] from e u g = same done [] from (s .expiry) e u (omega arith) (λ sign day h. refl) (before-end [] from (s .expiry) g)

@@ -14,10 +14,12 @@ use Rattle.schedule.specs.declared.Schedule.{Schedule}
 use Rattle.schedule.specs.Schedule.{leapsOf, wellFormed}
 use Rattle.clock.specs.declared.DtaiAnswer.{DtaiAnswer}
 use Rattle.clock.specs.declared.DtaiAnswer.the-variants.{Given}
-use Rattle.clock.specs.Days.{firstDtai, tally, dtai}
+use Rattle.clock.specs.Days.{firstDtai, dtai}
 use Rattle.clock.specs.Known.{lastDay}
 use Rattle.clock.specs.Question.{dtaiOn, given}
 use Rattle.clock.specs.Answers.{dtaiAnswer}
+use Rattle.clock.specs.Private.{tally}
+use Rattle.clock.proofs.Tallied.{dtai-tallied}
 use Rattle.clock.proofs.Checks.{pass}
 use Rattle.clock.proofs.Tai.{tally-few}
 use Rattle.clock.proofs.Signed.{minus-kept}
@@ -32,5 +34,5 @@ module _ (s : Schedule) (w : wellFormed s ≡ true) where
   -- it stays what it is where it is stored
   pub dtai-kept : (day : ℕ) → toZ w32 (ofZ w32 (dtai s day)) ≡ dtai s day
   dtai-kept day =
-      minus-kept (firstDtai + tally Positive (leapsOf s) day) (tally Negative (leapsOf s) day)
-      (omega (arith, tally-few s w Positive day)) (omega (arith, tally-few s w Negative day))
+      rw (dtai-tallied s day) (minus-kept (firstDtai + tally Positive (leapsOf s) day) (tally Negative (leapsOf s) day)
+      (omega (arith, tally-few s w Positive day)) (omega (arith, tally-few s w Negative day)))

@@ -1,11 +1,10 @@
 -- `clock::days::day_by` meets its contract. Assumes nothing.
-use borrow.Author.Needs.{needs}
 use Rattle.clock.proofs.Places.{day-surveyed}
 use Rattle.clock.proofs.days.day_by.Statement.{statement}
 use Rattle.clock.proofs.days.day_by.Tie as tie
 
 returns : tie.Need-returns
-returns c s day f e = rw (c .ending-by .ensures) (day-surveyed f (c .before .args .last) e)
+returns c s day f e = day-surveyed f (c .args .last) e
 
 pub day-by-spec : {M : Type 1} → statement M
-day-by-spec = tie.close (tie.spec (λ c κs. search needs) returns)
+day-by-spec = tie.close (tie.spec returns)

@@ -5,7 +5,7 @@ use native.Mathlib.Omega.{arith}
 use borrow.Author.Needs.{needs}
 use Rattle.schedule.specs.Schedule.{leapsOf}
 use Rattle.schedule.specs.WordLayout.{countWord, meant}
-use Rattle.clock.specs.Inner.{Lowered}
+use Rattle.clock.specs.Private.{Lowered}
 use Rattle.clock.proofs.LaidOut.{count-meant, count-room, full-meant, leap-meant}
 use Rattle.clock.proofs.Placed.{lowered-none, lowered-one}
 use Rattle.clock.proofs.inplace.lowered.Statement.{statement}

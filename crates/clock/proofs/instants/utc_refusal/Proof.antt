@@ -8,7 +8,7 @@ use Rattle.refusals.specs.Refusals.{noInstant}
 use Rattle.schedule.specs.declared.Schedule.{Schedule}
 use Rattle.clock.specs.Days.{longDay, ending, dayLength}
 use Rattle.clock.specs.declared.days.Day.{Day}
-use Rattle.clock.specs.Inner.{DayFor}
+use Rattle.clock.specs.Private.{DayFor}
 use Rattle.clock.proofs.Checks.{early-utc, pass, stop, sure-through, OnInstant, on-instant, instant-passed, instant-then, all-passed, then-refused, told-refused}
 use Rattle.clock.proofs.Places.{list-for}
 use Rattle.clock.proofs.Tai.{length-least}

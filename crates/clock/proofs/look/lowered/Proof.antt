@@ -6,7 +6,7 @@ use lib.ListN.{length-take}
 use lib.Seq.{getD-take}
 use borrow.Author.Needs.{needs}
 use Rattle.schedule.specs.Schedule.{noLeap, leapsOf}
-use Rattle.clock.specs.Inner.{Lowered}
+use Rattle.clock.specs.Private.{Lowered}
 use Rattle.clock.proofs.Placed.{lowered-none, lowered-one}
 use Rattle.clock.proofs.look.lowered.Statement.{statement}
 use Rattle.clock.proofs.look.lowered.Tie as tie

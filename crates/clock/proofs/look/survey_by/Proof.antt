@@ -17,16 +17,15 @@ sub-if1 c =
 
 returns : tie.Need-returns
 returns c =
-    let args = c .before .before .before .before .args in
-    let if1 = c .before .before .if1 in
-    let first-day = c .before .before .before .first-day in
-    let pre = c .before .before .before .before .pre in
-    let adds = c .before .adds in
-    let takes = c .takes in
+    let args = c .before .before .before .args in
+    let if1 = c .before .if1 in
+    let first-day = c .before .before .first-day in
+    let pre = c .before .before .before .pre in
+    let ending-of = c .ending-of in
     let day : monthStart (args .next) - 1 ≡ args .day = omega (arith, if1 .taken, first-day .ensures, start-min (pre .2)) in (
       refl,
       λ s month w p l q i. tallied-next s w (args .day) month (args .n) (args .down) (args .next) (args .sign) p l q i day
-          (adds .result) (takes .result) (adds .ensures .0) (takes .ensures .0) _ refl refl refl refl,
+          _ refl refl (ending-of .ensures),
     )
 
 returns-2 : tie.Need-returns-2
@@ -37,7 +36,7 @@ returns-2 c =
     let pre = c .before .before .pre in (
       refl,
       λ s month w p l q i. tallied-same s w (args .day) month (args .n) (args .down) (args .next) (args .sign) p l q i
-          (λ e. if1 .left (omega (arith, first-day .ensures, start-min (pre .2)))) _ refl refl refl refl,
+          (λ e. if1 .left (omega (arith, first-day .ensures, start-min (pre .2)))) _ refl refl refl,
     )
 
 pub survey-by-spec : {M : Type 1} → statement M
@@ -51,8 +50,5 @@ survey-by-spec =
     (λ c κs. search needs)
     sub-if1
     (λ c κs. search needs)
-    (λ c. search needs)
-    (λ c κs. search needs)
-    (λ c. search needs)
     returns
     returns-2)

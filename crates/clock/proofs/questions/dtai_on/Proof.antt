@@ -7,8 +7,10 @@ use borrow.Author.Needs.{needs}
 use Rattle.schedule.specs.declared.Sign.the-variants.{Positive, Negative}
 use Rattle.schedule.specs.Schedule.{leapsOf}
 use Rattle.clock.specs.declared.DtaiAnswer.the-variants.{Given}
-use Rattle.clock.specs.Days.{firstDtai, tally, dtai}
+use Rattle.clock.specs.Days.{firstDtai, dtai}
+use Rattle.clock.specs.Private.{tally}
 use Rattle.clock.specs.Answers.{dtaiAnswer}
+use Rattle.clock.proofs.Tallied.{dtai-tallied}
 use Rattle.clock.proofs.Tai.{tally-few}
 use Rattle.clock.proofs.Signed.{minus-kept}
 use Rattle.clock.proofs.Checks.{on-date, date-then, all-passed, then-passed, then-refused}
@@ -34,7 +36,7 @@ returns-2 c s f =
     let on = on-date s day tt tt passed in
     let is = f .is (on .well) (on .from) (on .through) in
     let value = dtai-by .ensures ∙ ap₂ (λ u d. subℕ (firstDtai + u) d) (ap (λ k. k .up) is) (ap (λ k. k .down) is) in
-    rw value (ap (λ z. Given z) (minus-kept (firstDtai + tally Positive (leapsOf s) day) (tally Negative (leapsOf s) day) (omega (arith, tally-few s (on .well) Positive day)) (omega (arith, tally-few s (on .well) Negative day))))
+    rw value (ap (λ z. Given z) (minus-kept (firstDtai + tally Positive (leapsOf s) day) (tally Negative (leapsOf s) day) (omega (arith, tally-few s (on .well) Positive day)) (omega (arith, tally-few s (on .well) Negative day)) ∙ sym (dtai-tallied s day)))
     ∙ sym (ap dtaiAnswer (then-passed (date-then s day (dtai s day)) passed))
 
 pub dtai-on-spec : {M : Type 1} → statement M

@@ -48,7 +48,7 @@ add-t7 c =
     omega (
       arith,
       start-of .ensures s is,
-      tai-high s (on .well) (a .day),
+      tai-high s (on .well) (a .day) (on .from),
       last-inside s (on .well),
       sure-through (on .sure),
       on .below,

@@ -17,7 +17,7 @@ use Rattle.clock.specs.declared.UtcAnswer.{UtcAnswer}
 use Rattle.clock.specs.declared.UtcAnswer.the-variants.{Given}
 use Rattle.clock.specs.Question.{firstTai, taiToUtc}
 use Rattle.clock.specs.Answers.{utcAnswer}
-use Rattle.clock.specs.Inner.{dayOn, DayFor, nearDay, onDay}
+use Rattle.clock.specs.Private.{dayOn, DayFor, nearDay, onDay}
 use Rattle.clock.proofs.Tai.{length-least, deleted-few, last-inside, tai-next}
 use Rattle.clock.proofs.Checks.{known-on-date, pass, stop, passed, failed}
 use Rattle.clock.proofs.Instant.{utc-answer, near-from, near-begun, near-stays, near-steps, near-inside, utc-past}

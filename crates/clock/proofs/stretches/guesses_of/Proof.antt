@@ -4,7 +4,7 @@ use native.Mathlib.Omega.{arith}
 use borrow.Author.Needs.{needs}
 use lib.ListN.{length, getD, length-set, length-replicate}
 use mathlib.Core.Path.{_≡_, _∙_}
-use Rattle.clock.specs.Inner.{Guesses}
+use Rattle.clock.specs.Private.{Guesses}
 use Rattle.clock.proofs.Preparing.{guesses-none, guesses-one}
 use Rattle.clock.proofs.stretches.guesses_of.Statement.{statement}
 use Rattle.clock.proofs.stretches.guesses_of.Tie as tie

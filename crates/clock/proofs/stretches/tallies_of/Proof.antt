@@ -5,7 +5,7 @@ use native.Mathlib.Omega.{arith}
 use borrow.Author.Needs.{needs}
 use Rattle.schedule.specs.Extends.{sameSign}
 use Rattle.schedule.specs.WordLayout.{meant}
-use Rattle.clock.specs.Days.{count}
+use Rattle.clock.specs.Private.{count}
 use Rattle.clock.proofs.LaidOut.{count-meant, full-meant, leap-meant}
 use Rattle.clock.proofs.Preparing.{Tallying, tallying-none, tallying-one, tallying-all}
 use Rattle.clock.proofs.stretches.tallies_of.Statement.{statement}

@@ -1,11 +1,10 @@
--- What only the private functions of src/ are held to: the leaps by a month, what one look at a schedule finds, and what it says of a
--- day. No public contract and no promise speaks of these.
+-- What only private functions are held to: the leaps by their sign and by a month, what one look at a schedule finds, and what it says of
+-- a day. No public contract and no promise speaks of these.
 -- Assumes nothing: these are definitions.
-use mathlib.Core.Bool.{Bool, true, cond}
+use mathlib.Core.Bool.{Bool, true, false, _&&_}
 use mathlib.Core.List.{List, [], _∷_}
 use mathlib.Core.Path.{_≡_}
 use Prim.Native.Nat.{ℕ, zero, suc, _+_, _-_, _*_, _/_, _≤_, _<_, min}
-use lib.Dec.{ltb}
 use lib.ListN.{length, getD, take}
 use Rattle.calendar.specs.Calendar.{firstDay, endDay, monthStart, InMonth}
 use Rattle.schedule.specs.declared.Sign.{Sign}
@@ -15,14 +14,23 @@ use Rattle.schedule.specs.declared.Schedule.{Schedule}
 use Rattle.schedule.specs.Schedule.{noLeap, leapsOf, wellFormed}
 use Rattle.schedule.specs.Extends.{sameSign}
 use Rattle.clock.specs.declared.days.Ending.{Ending}
-use Rattle.clock.specs.declared.days.Ending.the-variants.{Ordinary, Inserted, Deleted}
 use Rattle.clock.specs.declared.look.Survey.{Survey}
 use Rattle.clock.specs.declared.days.Day.{Day}
-use Rattle.clock.specs.Days.{microsPerDay, count, tally, ending}
+use Rattle.clock.specs.Days.{microsPerDay, inEffect, ending}
 use Rattle.clock.specs.Known.{lastDay, taiCutoff, knownTo}
 use Rattle.clock.specs.Question.{Answer, given, refused, require, Utc}
 use Rattle.clock.specs.Many.{HandsMany, HandsManyUtc}
 use Rattle.refusals.specs.Refusals.{notKnown}
+
+-- 1 where a test passes, else 0
+abbrev pub count : Bool → ℕ
+count true = 1
+count false = 0
+
+-- how many leaps of a sign are in effect on a day
+abbrev pub tally : Sign → List Leap → ℕ → ℕ
+tally sign [] day = 0
+tally sign (l ∷ ls) day = count (sameSign sign (l .sign) && inEffect l day) + tally sign ls day
 
 -- how many of the leaps have the sign
 abbrev pub ofSign : Sign → List Leap → ℕ
@@ -45,26 +53,21 @@ pub record Ahead (ls : List Leap) (n next : ℕ) (sign : Sign) : Type 0 where
   pub some : n < length ls → getD ls n noLeap ≡ record { month = next; sign = sign }
   pub none : length ls ≤ n → next ≡ 0
 
--- the tallies of a survey are those of a day and of the next
+-- a survey has the tallies of a day, and how it ends
 pub record TalliedOn (s : Schedule) (day : ℕ) (v : Survey) : Type 0 where
   pub up : v .up ≡ tally Positive (leapsOf s) day
   pub down : v .down ≡ tally Negative (leapsOf s) day
-  pub upNext : v .upnext ≡ tally Positive (leapsOf s) (day + 1)
-  pub downNext : v .downnext ≡ tally Negative (leapsOf s) (day + 1)
+  pub ends : v .ending ≡ ending s day
 
--- a survey for a day of a month: whether the schedule is well formed; where it is, the tallies are right
+-- a survey for a day of a month: whether the schedule is well formed; where it is, the rest is right
 pub record Surveyed (s : Schedule) (month day : ℕ) (v : Survey) : Type 0 where
   pub well : v .well ≡ wellFormed s
   pub tallied : wellFormed s ≡ true → InMonth day month → TalliedOn s day v
 
--- a survey for a day: where the schedule is well formed, the tallies are right for a day from 1972 through the last one
+-- a survey for a day: where the schedule is well formed, the rest is right for a day from 1972 through the last one
 pub record SurveyedOn (s : Schedule) (day : ℕ) (v : Survey) : Type 0 where
   pub well : v .well ≡ wellFormed s
   pub tallied : wellFormed s ≡ true → firstDay ≤ day → day ≤ lastDay s → TalliedOn s day v
-
--- how a day ends by the tallies of a day and of the next
-abbrev pub endingBy : Survey → Ending
-endingBy v = cond (ltb (v .up) (v .upnext)) Inserted (cond (ltb (v .down) (v .downnext)) Deleted Ordinary)
 
 -- what a schedule says of a day
 abbrev pub dayOn : Schedule → ℕ → Day
