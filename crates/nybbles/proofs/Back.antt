@@ -1,14 +1,14 @@
 -- Reading back: the nybble list of a well-formed schedule is read as that schedule.
 -- Assumes nothing.
 use mathlib.Core.Path.{_≡_, refl, ap, _∙_, sym}
-use mathlib.Core.Bool.{true}
-use mathlib.Core.List.{List, [], _∷_, _++_, map, map-append, append-nil}
-use Prim.Native.Nat.{ℕ, _+_, _*_, _-_, _%_, _≤_, _<_}
+use mathlib.Core.Bool.{true, false≢true}
+use mathlib.Core.List.{List, [], _∷_, _++_, map, map-append, append-nil, flatten}
+use Prim.Native.Nat.{ℕ, _+_, _-_, _%_, _≤_, _<_}
 use native.Mathlib.Omega.{arith}
-use lib.Dec.{ltb, eqb}
+use lib.Dec.{eqb}
 use lib.ListN.{length, length-map}
 use lib.Seq.{length-take-le}
-use borrow.Author.Tests.{ltb-true, lt-ltb, le-ltb, le-leb}
+use borrow.Author.Tests.{lt-ltb, le-ltb, le-leb, eqb-true}
 use Rattle.schedule.specs.declared.Sign.{Sign}
 use Rattle.schedule.specs.declared.Sign.the-variants.{Positive, Negative}
 use Rattle.schedule.specs.declared.Leap.{Leap}
@@ -28,10 +28,10 @@ use Rattle.nybbles.specs.declared.code.Mark.the-variants.{Leaps, Expires
 use Rattle.nybbles.specs.declared.code.Code.{Code}
 use Rattle.nybbles.specs.Codes.{nybbles, npExpiry, markOf, inSixes, npPositive, codesOf}
 use Rattle.nybbles.specs.Read.{State, fault, after, readCodes, readNybbles}
-use Rattle.nybbles.specs.Write.{npOf, codesFrom, plainCodes, spread, anySingle, padded, evened, pack, spelling, nybblesOf}
+use Rattle.nybbles.specs.Write.{npOf, codesFrom, plainCodes, isSingle, anySingle, padded, evened, spelling, nybblesOf}
 use Rattle.nybbles.proofs.Plain.{plain, readPlain, plain-read}
 use Rattle.nybbles.proofs.Filled.{np-small}
-use Rattle.nybbles.proofs.Division.{codeOf, divided, spelling-all, spread-all, evened-even, unpacked}
+use Rattle.nybbles.proofs.Division.{readAs, divided, spelling-all, no-nybble-lost}
 use Rattle.nybbles.proofs.Meaning.{Means, last, more, single-read, pair-read, written-means}
 
 -- codes are taken with one answer, wherever they stand
@@ -68,7 +68,7 @@ np-mark Negative = refl
 
 -- the codes of a list of leaps and of the expiry
 list-back : (ls : List Leap) (from expiry : ℕ) (s : Schedule) → gapsTo from ls expiry ≡ true → expiry ≤ 2400 → s .count + length ls ≤ 256
-    → Takes (at 0 from s) (map codeOf (codesFrom from ls expiry)) (accepted (adds s ls) (monthStart expiry))
+    → Takes (at 0 from s) (map readAs (codesFrom from ls expiry)) (accepted (adds s ls) (monthStart expiry))
 unfolding codesFrom gapsTo adds
 list-back [] from expiry s f h room =
     let a : from < expiry = fits-lt from expiry f in
@@ -84,40 +84,42 @@ list-back (l ∷ ls) from expiry s f h room =
     let w = rw (np-mark (l .sign)) at (written-means (npOf (l .sign)) (m - from) (np-small (l .sign)) (omega arith)) in
     let rest = list-back ls m expiry (withLeap s m (l .sign)) (later-to from l ls expiry f) h (omega arith) in
     rw map-append
-    (gap-back s m i (Leaps (l .sign)) _ _ (leap-back s m i (l .sign) (map codeOf (codesFrom m ls expiry)) _ (omega arith) rest) 0 from w (omega arith) (omega arith))
+    (gap-back s m i (Leaps (l .sign)) _ _ (leap-back s m i (l .sign) (map readAs (codesFrom m ls expiry)) _ (omega arith) rest) 0 from w (omega arith) (omega arith))
 
 -- a single nybble with a 9 before it has its months and its mark
-nine : (c : ℕ) → c < 16 → plain (codeOf (9 * 16 + c)) ≡ plain (codeOf c)
-nine c h = rw (single-read c h, pair-read inSixes npPositive c (omega arith) (omega arith) h)
+nine : (v : ℕ) → plain (readAs (9 ∷ v ∷ [])) ≡ plain (readAs (v ∷ []))
+nine v = rw (single-read v, pair-read inSixes npPositive v (omega arith) (omega arith))
 
-padded-plain : (cs : List ℕ) → map plain (map codeOf (padded cs)) ≡ map plain (map codeOf cs)
+nine-single : (c : List ℕ) → isSingle c ≡ true → plain (readAs (9 ∷ c)) ≡ plain (readAs c)
+nine-single [] b = absurd (false≢true b)
+nine-single (v ∷ []) b = nine v
+nine-single (n ∷ g ∷ ns) b = absurd (omega (arith, eqb-true (length (n ∷ g ∷ ns)) 1 b))
+
+padded-plain : (cs : List (List ℕ)) → map plain (map readAs (padded cs)) ≡ map plain (map readAs cs)
 unfolding padded
 padded-plain [] = refl
 padded-plain (c ∷ cs) =
     by-bool (anySingle cs)
     (λ a. simp (a, padded-plain cs))
-    (λ a. by-bool (ltb c 16) (λ b. simp (a, b, nine c (ltb-true c 16 b))) (λ b. simp (a, b)))
+    (λ a. by-bool (isSingle c) (λ b. simp (a, b, nine-single c b)) (λ b. simp (a, b)))
 
-evened-plain : (cs : List ℕ) → map plain (map codeOf (evened cs)) ≡ map plain (map codeOf cs)
+evened-plain : (cs : List (List ℕ)) → map plain (map readAs (evened cs)) ≡ map plain (map readAs cs)
 unfolding evened
-evened-plain cs = by-bool (eqb (length (spread cs) % 2) 0) (λ a. simp a) (λ a. simp a (padded-plain cs))
+evened-plain cs = by-bool (eqb (length (flatten cs) % 2) 1) (λ a. simp a (padded-plain cs)) (λ a. simp a)
 
 -- the nybble list of a well-formed schedule with 256 places is read as the schedule rounded down
 pub reads-back-rounded : (s : Schedule) → length (s .leaps) ≡ 256 → wellFormed s ≡ true → leavesGap s ≡ true → readNybbles (nybblesOf s) ≡ record { number = 0; place = 0; schedule = roundedDown s }
-unfolding nybblesOf spelling
+unfolding spelling
 reads-back-rounded s full w g =
     let p = parts s w in
     let used = length-take-le (s .count) (s .leaps) (omega (arith, p .room)) in
-    let written = spelling-all s w g in
-    let ns = spread (spelling s) in
-    let cs = map plain (map codeOf (plainCodes s)) in
-    let unpack : nybbles (pack ns) ≡ ns = unpacked ns (evened-even (plainCodes s)) (spread-all (spelling s) written) in
-    let same : map plain (codesOf (nybbles (pack ns))) ≡ cs =
-    ap (λ (ms : List ℕ). map plain (codesOf ms)) unpack ∙ (ap (map plain) (divided (spelling s) written) ∙ evened-plain (plainCodes s)) in
+    let cs = map plain (map readAs (plainCodes s)) in
+    let same : map plain (codesOf (nybbles (nybblesOf s))) ≡ cs =
+    ap (λ (ms : List ℕ). map plain (codesOf ms)) (no-nybble-lost s) ∙ (ap (map plain) (divided (spelling s) (spelling-all s)) ∙ evened-plain (plainCodes s)) in
     let taken : readPlain cs ≡ accepted (adds blankSchedule (leapsOf s)) (monthStart (expiryMonth s)) =
-    list-back (leapsOf s) 0 (expiryMonth s) blankSchedule (rounded-gaps s w g) (month-most (s .expiry)) (omega (arith, p .room)) 0 (length cs) (omega (arith, length-map (map codeOf (plainCodes s)) plain)) in
-    let read = plain-read (pack ns) in
-    let alike : readPlain (map plain (codesOf (nybbles (pack ns)))) ≡ accepted (adds blankSchedule (leapsOf s)) (monthStart (expiryMonth s)) = ap readPlain same ∙ taken in
+    list-back (leapsOf s) 0 (expiryMonth s) blankSchedule (rounded-gaps s w g) (month-most (s .expiry)) (omega (arith, p .room)) 0 (length cs) (omega (arith, length-map (map readAs (plainCodes s)) plain)) in
+    let read = plain-read (nybblesOf s) in
+    let alike : readPlain (map plain (codesOf (nybbles (nybblesOf s)))) ≡ accepted (adds blankSchedule (leapsOf s)) (monthStart (expiryMonth s)) = ap readPlain same ∙ taken in
     read .same (read .number ∙ ap (λ (r : Reading). r .number) alike) ∙ (alike ∙ made-again (roundedDown s) full (rounded-well s w g))
 
 -- so every one that expires on the first of a month is read back as itself

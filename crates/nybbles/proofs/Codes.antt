@@ -12,7 +12,7 @@ use borrow.Author.Tests.{lt-ltb, le-ltb}
 use Rattle.schedule.proofs.Cases.{by-bool, by-cond}
 use Rattle.nybbles.specs.declared.code.Code.{Code}
 use Rattle.nybbles.specs.Codes.{nybbles, bitM, single, wide, lastG, codesOf}
-use Rattle.nybbles.specs.Inner.{Next}
+use Rattle.nybbles.specs.Private.{Next}
 
 pub count : (bs : List ℕ) → length (nybbles bs) ≡ 2 * length bs
 unfolding nybbles

@@ -2,95 +2,88 @@
 -- Assumes nothing.
 use mathlib.Core.Path.{_≡_, refl, sym, ap, _∙_}
 use mathlib.Core.Bool.{true, false, false≢true}
-use mathlib.Core.List.{List, [], _∷_}
+use mathlib.Core.List.{List, [], _∷_, _++_, map, flatten}
 use Prim.Native.Nat.{ℕ, zero, suc, _+_, _*_, _-_, _%_, _≤_, _<_}
-use native.Mathlib.Numerals.{add-one}
 use native.Mathlib.Omega.{arith}
-use lib.Dec.{ltb}
-use lib.ListN.{length, getD, take, drop, set, length-set, drop-of-length-le}
-use lib.Seq.{drop-cons, length-take-le, getD-take, take-set-lt}
-use borrow.Author.Tests.{lt-ltb, le-ltb, eq-eqb, ne-eqb}
+use lib.ListN.{length, getD, take, drop, set, length-set, length-map, length-append, drop-of-length-le, List·getD-map}
+use lib.Seq.{length-take-le, getD-take, take-set-lt}
+use borrow.Author.Tests.{eq-eqb, ne-eqb}
 use Rattle.schedule.specs.declared.Schedule.{Schedule}
 use Rattle.schedule.proofs.Cases.{by-bool}
-use Rattle.nybbles.specs.Write.{halves, spread, anySingle, padded, evened, plainCodes, spelling}
-use Rattle.nybbles.specs.Inner.{Holds}
+use Rattle.nybbles.specs.Write.{isSingle, anySingle, padded, evened, plainCodes, spelling}
+use Rattle.nybbles.specs.Private.{codeOf, Holds}
+use Rattle.nybbles.proofs.Held.{held-single, held-double, held-nine, held-set, held-next}
 
--- the nybbles of a code, and of those after it
-pub halves-length : (c : ℕ) (ns : List ℕ) → length (halves c ns) ≡ length (halves c []) + length ns
-halves-length c ns = by-bool (ltb c 16) (λ b. simp b (omega arith)) (λ b. simp b (omega arith))
-
-pub halves-few : (c : ℕ) → length (halves c []) ≤ 2
-halves-few c = by-bool (ltb c 16) (λ b. simp b (omega arith)) (λ b. simp b (omega arith))
-
--- the code at a place of the first n
+-- the code at a place of the first n, before those after it
 module _ (codes : List ℕ) (n i : ℕ) (full : n ≤ length codes) where
+  abbrev cs : List (List ℕ)
+  cs = take n (map codeOf codes)
+
   module _ (h : i < n) where
-    at-code : drop i (take n codes) ≡ getD codes i 0 ∷ drop (i + 1) (take n codes)
-    at-code =
-        let l : length (take n codes) ≡ n = length-take-le n codes full in
-        let j : i < length (take n codes) = omega arith in
-        rw (add-one, drop-cons (take n codes) i 0 j, getD-take n codes i 0 h)
+    pub flat-next : flatten (drop i cs) ≡ codeOf (getD codes i 0) ++ flatten (drop (i + 1) cs)
+    unfolding flatten
+    flat-next = rw (held-next codes n i full h)
 
-    pub spread-next : spread (drop i (take n codes)) ≡ halves (getD codes i 0) (spread (drop (i + 1) (take n codes)))
-    unfolding spread
-    spread-next = rw at-code
+    pub flat-length : length (flatten (drop i cs)) ≡ length (codeOf (getD codes i 0)) + length (flatten (drop (i + 1) cs))
+    flat-length = ap length flat-next ∙ length-append (codeOf (getD codes i 0)) (flatten (drop (i + 1) cs))
 
-    any-next : 16 ≤ getD codes i 0 → anySingle (drop i (take n codes)) ≡ anySingle (drop (i + 1) (take n codes))
+    any-next : 16 ≤ getD codes i 0 → anySingle (drop i cs) ≡ anySingle (drop (i + 1) cs)
     unfolding anySingle
-    any-next l = rw at-code (simp (le-ltb _ 16 l))
+    any-next l = rw (held-next codes n i full h) (simp (held-double (getD codes i 0) l))
 
-  past : n ≤ i → drop i (take n codes) ≡ []
+  pub first-length : length cs ≡ n
+  first-length = length-take-le n (map codeOf codes) (omega (arith, length-map codes codeOf))
+
+  past : n ≤ i → drop i cs ≡ []
   past h =
-      let l : length (take n codes) ≡ n = length-take-le n codes full in
-      let j : length (take n codes) ≤ i = omega arith in
-      drop-of-length-le (take n codes) j
+      let j : length cs ≤ i = omega (arith, first-length) in
+      drop-of-length-le cs j
 
-  pub spread-end : n ≤ i → spread (drop i (take n codes)) ≡ []
-  unfolding spread
-  spread-end h = rw (past h)
+  pub flat-end : n ≤ i → flatten (drop i cs) ≡ []
+  unfolding flatten
+  flat-end h = rw (past h)
 
 -- what holds in the loop of `nybble_count`
 pub record Counts (codes : List ℕ) (n i count : ℕ) : Type 0 where
   pub inside : i ≤ n
   pub few : count ≤ 2 * i
-  pub rest : count + length (spread (drop i (take n codes))) ≡ length (spread (take n codes))
+  pub rest : count + length (flatten (drop i (take n (map codeOf codes)))) ≡ length (flatten (take n (map codeOf codes)))
 
 module _ (codes : List ℕ) (n i count : ℕ) (full : n ≤ length codes) (s : Counts codes n i count) where
-  pub count-step : i < n → (k : ℕ) → k ≡ length (halves (getD codes i 0) []) → k ≤ 2 → Counts codes n (i + 1) (count + k)
+  pub count-step : i < n → (k : ℕ) → k ≡ length (codeOf (getD codes i 0)) → k ≤ 2 → Counts codes n (i + 1) (count + k)
   count-step h k e l =
-      let d : length (spread (drop i (take n codes))) ≡ length (halves (getD codes i 0) []) + length (spread (drop (i + 1) (take n codes)))
-      = ap length (spread-next codes n i full h) ∙ halves-length (getD codes i 0) (spread (drop (i + 1) (take n codes))) in
-      record { inside = omega arith; few = omega (arith, s .few); rest = omega (arith, s .rest) }
+      record { inside = omega arith; few = omega (arith, s .few); rest = omega (arith, s .rest, flat-length codes n i full h) }
 
-  pub count-end : n ≤ i → count ≡ length (spread (take n codes))
-  count-end h = omega (arith, s .rest, ap length (spread-end codes n i full h))
+  pub count-end : n ≤ i → count ≡ length (flatten (take n (map codeOf codes)))
+  count-end h = omega (arith, s .rest, ap length (flat-end codes n i full h))
 
 -- where no single nybble is left, and where the last one is
-pad-none : (cs : List ℕ) → anySingle cs ≡ false → padded cs ≡ cs
+pad-none : (cs : List (List ℕ)) → anySingle cs ≡ false → padded cs ≡ cs
 unfolding anySingle padded
 pad-none [] e = refl
 pad-none (c ∷ cs) e =
-    by-bool (ltb c 16)
+    by-bool (isSingle c)
     (λ b. absurd (false≢true (sym (simp b at e))))
     (λ b. simp (b, (simp b at e)))
 
-any-at : (cs : List ℕ) (i : ℕ) → i < length cs → getD cs i 0 < 16 → anySingle cs ≡ true
-unfolding anySingle
-any-at [] i h l = absurd (omega arith)
-any-at (c ∷ cs) zero h l = simp (lt-ltb c 16 l)
-any-at (c ∷ cs) (suc i) h l = by-bool (ltb c 16) (λ b. simp b) (λ b. simp b (any-at cs i (omega arith) l))
+module _ (d : List ℕ) where
+  any-at : (cs : List (List ℕ)) (i : ℕ) → i < length cs → isSingle (getD cs i d) ≡ true → anySingle cs ≡ true
+  unfolding anySingle
+  any-at [] i h l = absurd (omega arith)
+  any-at (c ∷ cs) zero h l = simp l
+  any-at (c ∷ cs) (suc i) h l = by-bool (isSingle c) (λ b. simp b) (λ b. simp b (any-at cs i (omega arith) l))
 
-pad-at : (cs : List ℕ) (i : ℕ) → i < length cs → getD cs i 0 < 16 → anySingle (drop (suc i) cs) ≡ false → set cs i (9 * 16 + getD cs i 0) ≡ padded cs
-unfolding padded
-pad-at [] i h l e = absurd (omega arith)
-pad-at (c ∷ cs) zero h l e = simp (e, lt-ltb c 16 l)
-pad-at (c ∷ cs) (suc i) h l e = simp (any-at cs i (omega arith) l) (ap (λ (t : List ℕ). c ∷ t) (pad-at cs i (omega arith) l e))
+  pad-at : (cs : List (List ℕ)) (i : ℕ) → i < length cs → isSingle (getD cs i d) ≡ true → anySingle (drop (suc i) cs) ≡ false → set cs i (9 ∷ getD cs i d) ≡ padded cs
+  unfolding padded
+  pad-at [] i h l e = absurd (omega arith)
+  pad-at (c ∷ cs) zero h l e = simp (e, l)
+  pad-at (c ∷ cs) (suc i) h l e = simp (any-at cs i (omega arith) l) (ap (λ (t : List (List ℕ)). c ∷ t) (pad-at cs i (omega arith) l e))
 
 -- what holds in the loop of `pad`: no single nybble from here on
 pub record Pads (codes₀ codes : List ℕ) (n i : ℕ) : Type 0 where
   pub inside : i ≤ n
   pub same : codes ≡ codes₀
-  pub none : anySingle (drop i (take n codes₀)) ≡ false
+  pub none : anySingle (drop i (take n (map codeOf codes₀))) ≡ false
 
 pub pads-start : (codes : List ℕ) (n : ℕ) → n ≤ length codes → Pads codes codes n n
 unfolding anySingle
@@ -107,37 +100,37 @@ module _ (codes₀ codes : List ℕ) (n i : ℕ) (small : n ≤ 2400) (all : len
       let l′ : 16 ≤ getD codes₀ (i - 1) 0 = rw (s .same) at l in
       record { inside = omega arith; same = s .same; none = any-next codes₀ n (i - 1) full k l′ ∙ rw e (s .none) }
 
-  found : 0 < i → (c : ℕ) → c ≡ getD codes (i - 1) 0 → c < 16 → take n (set codes (i - 1) (9 * 16 + c)) ≡ padded (take n codes₀)
+  found : 0 < i → (c : ℕ) → c ≡ getD codes (i - 1) 0 → c < 16 → take n (map codeOf (set codes (i - 1) (9 * 16 + c))) ≡ padded (take n (map codeOf codes₀))
   found h c q l =
+      let cs = map codeOf codes₀ in
       let k : i - 1 < n = omega (arith, s .inside) in
       let e : suc (i - 1) ≡ i = omega arith in
-      let len : length (take n codes₀) ≡ n = length-take-le n codes₀ full in
-      let g : getD (take n codes₀) (i - 1) 0 ≡ getD codes₀ (i - 1) 0 = getD-take n codes₀ (i - 1) 0 k in
-      let c′ : c ≡ getD (take n codes₀) (i - 1) 0 = q ∙ (rw (s .same) (sym g)) in
-      rw (s .same, take-set-lt n codes₀ (i - 1) (9 * 16 + c) k, c′)
-      (pad-at (take n codes₀) (i - 1) (omega arith) (omega arith) (rw e (s .none)))
+      let len : length (take n cs) ≡ n = first-length codes₀ n i full in
+      let g : getD (take n cs) (i - 1) (codeOf 0) ≡ codeOf c = getD-take n cs (i - 1) (codeOf 0) k ∙ (List·getD-map codeOf codes₀ (i - 1) 0 ∙ rw (q, s .same)) in
+      rw (s .same, held-set codes₀ (i - 1) (9 * 16 + c), held-nine c l, take-set-lt n cs (i - 1) (9 ∷ codeOf c) k, ← g)
+      (pad-at (codeOf 0) (take n cs) (i - 1) (omega arith) (ap isSingle g ∙ held-single c l) (rw e (s .none)))
 
-  pub pads-found : 0 < i → (c : ℕ) → c ≡ getD codes (i - 1) 0 → c < 16 → Holds (set codes (i - 1) (9 * 16 + c)) n (padded (take n codes₀))
+  pub pads-found : 0 < i → (c : ℕ) → c ≡ getD codes (i - 1) 0 → c < 16 → Holds (set codes (i - 1) (9 * 16 + c)) n (padded (take n (map codeOf codes₀)))
   pads-found h c q l = record { few = small; full = length-set codes (i - 1) (9 * 16 + c) ∙ (ap length (s .same) ∙ all); held = found h c q l }
 
-  pub pads-none : i ≤ 0 → Holds codes n (padded (take n codes₀))
+  pub pads-none : i ≤ 0 → Holds codes n (padded (take n (map codeOf codes₀)))
   pads-none h =
       let z : i ≡ 0 = omega arith in
-      record { few = small; full = ap length (s .same) ∙ all; held = rw (s .same) (sym (pad-none (take n codes₀) (rw z at (s .none)))) }
+      record { few = small; full = ap length (s .same) ∙ all; held = rw (s .same) (sym (pad-none (take n (map codeOf codes₀)) (rw z at (s .none)))) }
 
 -- the evened codes
-module _ (s : Schedule) (codes : List ℕ) (n m : ℕ) (h : Holds codes n (plainCodes s)) (e : m ≡ length (spread (take n codes))) where
-  counted : m ≡ length (spread (plainCodes s))
-  counted = e ∙ ap (λ (cs : List ℕ). length (spread cs)) (h .held)
+module _ (s : Schedule) (codes : List ℕ) (n m : ℕ) (h : Holds codes n (plainCodes s)) (e : m ≡ length (flatten (take n (map codeOf codes)))) where
+  counted : m ≡ length (flatten (plainCodes s))
+  counted = e ∙ ap (λ (cs : List (List ℕ)). length (flatten cs)) (h .held)
 
   pub spelt-even : m % 2 ≡ 0 → Holds codes n (spelling s)
   unfolding spelling evened
   spelt-even z =
-      let k : length (spread (plainCodes s)) % 2 ≡ 0 = ap (λ (x : ℕ). x % 2) (sym counted) ∙ z in
-      record { few = h .few; full = h .full; held = h .held ∙ simp (eq-eqb _ _ k) }
+      let k : length (flatten (plainCodes s)) % 2 ≡ 1 → ⊥ = λ x. omega (arith, counted) in
+      record { few = h .few; full = h .full; held = h .held ∙ simp (ne-eqb _ _ k) }
 
-  pub spelt-odd : (m % 2 ≡ 0 → ⊥) → (exit : List ℕ) → Holds exit n (padded (take n codes)) → Holds exit n (spelling s)
+  pub spelt-odd : (m % 2 ≡ 0 → ⊥) → (exit : List ℕ) → Holds exit n (padded (take n (map codeOf codes))) → Holds exit n (spelling s)
   unfolding spelling evened
   spelt-odd z exit g =
-      let k : length (spread (plainCodes s)) % 2 ≡ 0 → ⊥ = λ x. z (ap (λ (y : ℕ). y % 2) counted ∙ x) in
-      record { few = g .few; full = g .full; held = g .held ∙ (ap padded (h .held) ∙ simp (ne-eqb _ _ k)) }
+      let k : length (flatten (plainCodes s)) % 2 ≡ 1 = omega (arith, counted) in
+      record { few = g .few; full = g .full; held = g .held ∙ (ap padded (h .held) ∙ simp (eq-eqb _ _ k)) }

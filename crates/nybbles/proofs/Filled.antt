@@ -2,10 +2,10 @@
 -- Assumes nothing.
 use mathlib.Core.Path.{_≡_, refl, sym, ap, _∙_}
 use mathlib.Core.Bool.{true}
-use mathlib.Core.List.{List, _++_}
+use mathlib.Core.List.{List, _++_, map}
 use Prim.Native.Nat.{ℕ, _+_, _-_, _≤_, _<_}
 use native.Mathlib.Omega.{arith}
-use lib.ListN.{length, getD, drop, length-append, drop-of-length-le}
+use lib.ListN.{length, getD, drop, length-append, length-map, drop-of-length-le}
 use lib.Seq.{sets, sets-eq, length-sets, take-at}
 use Rattle.schedule.specs.declared.Sign.{Sign}
 use Rattle.schedule.specs.declared.Sign.the-variants.{Positive, Negative}
@@ -15,10 +15,10 @@ use Rattle.schedule.proofs.Formed as formed
 use Rattle.schedule.proofs.Gaps.{fits-lt, fits-le, Parts, parts}
 use Rattle.schedule.proofs.Rounded.{gapsTo, first-to, later-to, last-to, rounded-gaps}
 use Rattle.calendar.proofs.Laws.{month-most}
-use Rattle.schedule.proofs.Stores.{sets-append}
 use Rattle.nybbles.specs.Codes.{npExpiry}
 use Rattle.nybbles.specs.Write.{npOf, gapCodes, codesFrom, plainCodes}
-use Rattle.nybbles.specs.Inner.{Holds}
+use Rattle.nybbles.specs.Private.{codeOf, Stores, Holds}
+use Rattle.nybbles.proofs.Held.{sets-append}
 use Rattle.nybbles.proofs.Stored.{list-short}
 
 pub np-small : (k : Sign) → npOf k < 4
@@ -38,7 +38,7 @@ pub record Fills (s : Schedule) (codes₀ codes : List ℕ) (at last i : ℕ) : 
   pub inside : i ≤ s .count
   pub left : gapsTo last (drop i (leapsOf s)) (expiryMonth s) ≡ true
   pub count : at + length (codesFrom last (drop i (leapsOf s)) (expiryMonth s)) ≡ length (plainCodes s)
-  pub stored : sets codes at (codesFrom last (drop i (leapsOf s)) (expiryMonth s)) ≡ sets codes₀ 0 (plainCodes s)
+  pub stored : sets (map codeOf codes) at (codesFrom last (drop i (leapsOf s)) (expiryMonth s)) ≡ sets (map codeOf codes₀) 0 (plainCodes s)
 
 pub fills-start : (s : Schedule) (codes : List ℕ) → wellFormed s ≡ true → leavesGap s ≡ true → length (s .leaps) ≡ 256 → Fills s codes codes 0 0 0
 fills-start s codes w g l =
@@ -62,7 +62,7 @@ module _ (s : Schedule) (codes₀ codes : List ℕ) (at last i : ℕ) (f : Fills
     abbrev np : ℕ
     np = npOf (getD (s .leaps) i noLeap .sign)
 
-    abbrev rest : List ℕ
+    abbrev rest : List (List ℕ)
     rest = codesFrom month (drop (i + 1) (leapsOf s)) (expiryMonth s)
 
     next-codes : codesFrom last (drop i (leapsOf s)) (expiryMonth s) ≡ gapCodes np (month - last) ++ rest
@@ -80,9 +80,8 @@ module _ (s : Schedule) (codes₀ codes : List ℕ) (at last i : ℕ) (f : Fills
         let a : last < month = fits-lt last month next-fits in
         rw e ((np-small (getD (s .leaps) i noLeap .sign), (omega arith, fits-le last month next-fits)), omega (arith, f .count, all-short, next-length))
 
-    pub fills-step : (exit : List ℕ) (r k : ℕ) → k ≡ np → r ≡ at + length (gapCodes k (month - last)) → exit ≡ sets codes at (gapCodes k (month - last))
-        → Fills s codes₀ exit r month (i + 1)
-    fills-step exit r k e p q =
+    pub fills-step : (exit : List ℕ) (r k : ℕ) → k ≡ np → Stores codes exit at r (gapCodes k (month - last)) → Fills s codes₀ exit r month (i + 1)
+    fills-step exit r k e w =
         let c : gapCodes k (month - last) ≡ gapCodes np (month - last) = rw e refl in
         record {
           parted = f .parted;
@@ -91,8 +90,8 @@ module _ (s : Schedule) (codes₀ codes : List ℕ) (at last i : ℕ) (f : Fills
           full = f .full;
           inside = omega arith;
           left = later-to last _ (drop (i + 1) (leapsOf s)) (expiryMonth s) (rw (formed.in-use s i (omega (arith, used))) at (f .left));
-          count = omega (arith, f .count, next-length, ap length c);
-          stored = rw (p, q, c) (sym (sets-append (gapCodes np (month - last)) codes at rest) ∙ (ap (sets codes at) (sym next-codes) ∙ f .stored));
+          count = omega (arith, f .count, w .count, next-length, ap length c);
+          stored = rw (w .count, w .stored, c) (sym (sets-append (gapCodes np (month - last)) (map codeOf codes) at rest) ∙ (ap (sets (map codeOf codes) at) (sym next-codes) ∙ f .stored));
         }
 
   -- the expiry
@@ -114,14 +113,14 @@ module _ (s : Schedule) (codes₀ codes : List ℕ) (at last i : ℕ) (f : Fills
         let a : last < month = fits-lt last month last-fits in
         ((omega arith, (omega arith, fits-le last month last-fits)), omega (arith, f .count, all-short, ap length last-codes))
 
-    pub fills-end : length codes₀ ≡ 2400 → (exit : List ℕ) (r : ℕ) → r ≡ at + length (gapCodes npExpiry gap) → exit ≡ sets codes at (gapCodes npExpiry gap)
-        → Holds exit r (plainCodes s)
-    fills-end all exit r p q =
-        let e : exit ≡ sets codes₀ 0 (plainCodes s) = q ∙ (ap (sets codes at) (sym last-codes) ∙ f .stored) in
-        let m : r ≡ length (plainCodes s) = omega (arith, f .count, ap length last-codes) in
-        let fit : 0 + length (plainCodes s) ≤ length codes₀ = omega (arith, all-short) in
+    pub fills-end : length codes₀ ≡ 2400 → (exit : List ℕ) (r : ℕ) → Stores codes exit at r (gapCodes npExpiry gap) → Holds exit r (plainCodes s)
+    fills-end all exit r w =
+        let all′ : length (map codeOf codes₀) ≡ 2400 = length-map codes₀ codeOf ∙ all in
+        let e : map codeOf exit ≡ sets (map codeOf codes₀) 0 (plainCodes s) = w .stored ∙ (ap (sets (map codeOf codes) at) (sym last-codes) ∙ f .stored) in
+        let m : r ≡ length (plainCodes s) = omega (arith, f .count, w .count, ap length last-codes) in
+        let fit : 0 + length (plainCodes s) ≤ length (map codeOf codes₀) = omega (arith, all-short) in
         record {
           few = omega (arith, all-short);
-          full = ap length e ∙ (length-sets codes₀ 0 (plainCodes s) ∙ all);
-          held = rw (e, m, sets-eq (plainCodes s) codes₀ 0 fit) (take-at (plainCodes s) _ (length (plainCodes s)) refl);
+          full = sym (length-map exit codeOf) ∙ (ap length e ∙ (length-sets (map codeOf codes₀) 0 (plainCodes s) ∙ all′));
+          held = rw (e, m, sets-eq (plainCodes s) (map codeOf codes₀) 0 fit) (take-at (plainCodes s) _ (length (plainCodes s)) refl);
         }

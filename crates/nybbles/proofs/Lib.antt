@@ -5,7 +5,8 @@ pub mod Places
 pub mod Plain
 pub mod Sound
 pub mod Early
-mod Stored
+mod Held
+pub mod Stored
 mod Filled
 mod Evened
 pub mod Division

@@ -1,25 +1,20 @@
 -- Nybbles put into bytes: one nybble, those of a code, and those of the codes of a schedule.
 -- Assumes nothing.
 use mathlib.Core.Path.{_≡_, refl, sym, ap, _∙_}
-use mathlib.Core.Bool.{true}
-use mathlib.Core.List.{List, [], _∷_, _++_}
+use mathlib.Core.List.{List, [], _∷_, _++_, map, flatten}
 use Prim.Native.Nat.{ℕ, zero, suc, _+_, _*_, _/_, _%_, _≤_, _<_}
 use native.Mathlib.Numerals.{add-one}
 use native.Mathlib.Omega.{arith}
-use lib.Dec.{ltb}
 use lib.ListN.{length, getD, take, drop, set}
 use lib.Seq.{sets, length-sets, getD-set-other, set-getD}
-use borrow.Author.Tests.{lt-ltb, le-ltb}
 use Rattle.schedule.specs.declared.Schedule.{Schedule}
-use Rattle.schedule.specs.Schedule.{leavesGap, wellFormed}
-use Rattle.schedule.proofs.Cases.{by-bool}
-use Rattle.schedule.proofs.Stores.{sets-append}
 use Rattle.nybbles.specs.Codes.{nybbles}
-use Rattle.nybbles.specs.Write.{halves, spread, pack, plainCodes, spelling, nybblesOf}
-use Rattle.nybbles.specs.Inner.{Holds}
+use Rattle.nybbles.specs.Write.{pack, spelling, nybblesOf}
+use Rattle.nybbles.specs.Private.{codeOf, Holds}
+use Rattle.nybbles.proofs.Held.{held-one, held-two, held-few, sets-append}
 use Rattle.nybbles.proofs.Codes.{All, more, count, upper, lower}
-use Rattle.nybbles.proofs.Evened.{halves-few, halves-length, spread-next, spread-end}
-use Rattle.nybbles.proofs.Division.{IsNybble, spelling-all, spread-all, evened-even, nybble-count}
+use Rattle.nybbles.proofs.Evened.{flat-next, flat-length, flat-end}
+use Rattle.nybbles.proofs.Division.{IsNybble, spelling-all, flat-all, spelling-even, nybble-count}
 
 -- a whole byte put, which is its two nybbles put
 put-byte : (bs : List ℕ) (at k m n : ℕ) → at ≡ 2 * k → n < 16 → nybbles (set bs k (m * 16 + n)) ≡ set (set (nybbles bs) at m) (suc at) n
@@ -64,32 +59,28 @@ packed (b ∷ bs) =
     let x : b / 16 * 16 + b % 16 ≡ b = omega arith in
     rw (x, packed bs)
 
--- the nybbles of a code, before others
-halves-append : (c : ℕ) (ns : List ℕ) → halves c ns ≡ halves c [] ++ ns
-halves-append c ns = by-bool (ltb c 16) (λ b. simp b) (λ b. simp b)
-
 -- a code of one nybble, and one of two
 module _ (at c : ℕ) where
-  pub one-size : c < 16 → at + 1 ≡ at + length (halves c [])
-  one-size h = simp (lt-ltb c 16 h)
+  pub one-size : c < 16 → at + 1 ≡ at + length (codeOf c)
+  one-size h = rw (held-one c h)
 
-  pub two-size : 16 ≤ c → at + 2 ≡ at + length (halves c [])
-  two-size h = simp (le-ltb c 16 h)
+  pub two-size : 16 ≤ c → at + 2 ≡ at + length (codeOf c)
+  two-size h = rw (held-two c h)
 
   module _ (ns : List ℕ) where
-    pub one-put : c < 16 → set ns at c ≡ sets ns at (halves c [])
-    one-put h = simp (lt-ltb c 16 h)
+    pub one-put : c < 16 → set ns at c ≡ sets ns at (codeOf c)
+    one-put h = rw (held-one c h)
 
-    pub two-put : 16 ≤ c → set (set ns at (c / 16)) (at + 1) (c % 16) ≡ sets ns at (halves c [])
-    two-put h = simp (le-ltb c 16 h, add-one)
+    pub two-put : 16 ≤ c → set (set ns at (c / 16)) (at + 1) (c % 16) ≡ sets ns at (codeOf c)
+    two-put h = rw (held-two c h, add-one)
 
 -- what holds in the loop of `put_codes`: the nybbles left, put from here on, make the whole
 pub record Puts (codes : List ℕ) (n : ℕ) (out₀ out : List ℕ) (at i : ℕ) : Type 0 where
   pub inside : i ≤ n
   pub few : at ≤ 2 * i
   pub same : length (nybbles out) ≡ length (nybbles out₀)
-  pub count : at + length (spread (drop i (take n codes))) ≡ length (spread (take n codes))
-  pub stored : sets (nybbles out) at (spread (drop i (take n codes))) ≡ sets (nybbles out₀) 0 (spread (take n codes))
+  pub count : at + length (flatten (drop i (take n (map codeOf codes)))) ≡ length (flatten (take n (map codeOf codes)))
+  pub stored : sets (nybbles out) at (flatten (drop i (take n (map codeOf codes)))) ≡ sets (nybbles out₀) 0 (flatten (take n (map codeOf codes)))
 
 pub puts-start : (codes : List ℕ) (n : ℕ) (out : List ℕ) → Puts codes n out out 0 0
 puts-start codes n out = record { inside = omega arith; few = omega arith; same = refl; count = omega arith; stored = refl }
@@ -104,44 +95,44 @@ module _ (codes : List ℕ) (n : ℕ) (out₀ out : List ℕ) (at i : ℕ) (full
     c = getD codes i 0
 
     abbrev rest : List ℕ
-    rest = spread (drop (i + 1) (take n codes))
+    rest = flatten (drop (i + 1) (take n (map codeOf codes)))
 
-    next : spread (drop i (take n codes)) ≡ halves c [] ++ rest
-    next = spread-next codes n i full h ∙ halves-append c rest
+    next : flatten (drop i (take n (map codeOf codes))) ≡ codeOf c ++ rest
+    next = flat-next codes n i full h
 
-    next-length : length (spread (drop i (take n codes))) ≡ length (halves c []) + length rest
-    next-length = ap length (spread-next codes n i full h) ∙ halves-length c rest
+    next-length : length (flatten (drop i (take n (map codeOf codes)))) ≡ length (codeOf c) + length rest
+    next-length = flat-length codes n i full h
 
-    pub puts-room : length (spread (take n codes)) ≤ length (nybbles out₀) → at + length (halves c []) ≤ length (nybbles out)
+    pub puts-room : length (flatten (take n (map codeOf codes))) ≤ length (nybbles out₀) → at + length (codeOf c) ≤ length (nybbles out)
     puts-room l = omega (arith, s .count, s .same, next-length)
 
-    pub puts-step : (exit : List ℕ) (r : ℕ) → r ≡ at + length (halves c []) → nybbles exit ≡ sets (nybbles out) at (halves c []) → Puts codes n out₀ exit r (i + 1)
+    pub puts-step : (exit : List ℕ) (r : ℕ) → r ≡ at + length (codeOf c) → nybbles exit ≡ sets (nybbles out) at (codeOf c) → Puts codes n out₀ exit r (i + 1)
     puts-step exit r p q = record {
       inside = omega arith;
-      few = omega (arith, s .few, halves-few c);
-      same = ap length q ∙ (length-sets (nybbles out) at (halves c []) ∙ s .same);
+      few = omega (arith, s .few, held-few c);
+      same = ap length q ∙ (length-sets (nybbles out) at (codeOf c) ∙ s .same);
       count = omega (arith, s .count, next-length);
-      stored = rw (p, q) (sym (sets-append (halves c []) (nybbles out) at rest) ∙ (ap (sets (nybbles out) at) (sym next) ∙ s .stored));
+      stored = rw (p, q) (sym (sets-append (codeOf c) (nybbles out) at rest) ∙ (ap (sets (nybbles out) at) (sym next) ∙ s .stored));
     }
 
-  pub puts-end : n ≤ i → nybbles out ≡ sets (nybbles out₀) 0 (spread (take n codes))
-  puts-end h = ap (sets (nybbles out) at) (sym (spread-end codes n i full h)) ∙ s .stored
+  pub puts-end : n ≤ i → nybbles out ≡ sets (nybbles out₀) 0 (flatten (take n (map codeOf codes)))
+  puts-end h = ap (sets (nybbles out) at) (sym (flat-end codes n i full h)) ∙ s .stored
 
 -- the list of a schedule
 module _ (s : Schedule) (codes : List ℕ) (n : ℕ) (h : Holds codes n (spelling s)) where
-  spread-held : spread (take n codes) ≡ spread (spelling s)
-  spread-held = ap spread (h .held)
+  flat-held : flatten (take n (map codeOf codes)) ≡ flatten (spelling s)
+  flat-held = ap flatten (h .held)
 
-  module _ (m : ℕ) (e : m ≡ length (spread (take n codes))) where
+  module _ (m : ℕ) (e : m ≡ length (flatten (take n (map codeOf codes)))) where
     pub bytes-counted : m / 2 ≡ length (nybblesOf s)
-    bytes-counted = omega (arith, nybble-count s, ap length spread-held)
+    bytes-counted = omega (arith, nybble-count s, ap length flat-held)
 
-    pub bytes-fit : (out : List ℕ) → m / 2 ≤ length out → length (spread (take n codes)) ≤ length (nybbles out)
-    bytes-fit out l = omega (arith, nybble-count s, ap length spread-held, count out)
+    pub bytes-fit : (out : List ℕ) → m / 2 ≤ length out → length (flatten (take n (map codeOf codes))) ≤ length (nybbles out)
+    bytes-fit out l = omega (arith, nybble-count s, ap length flat-held, count out)
 
-  pub bytes-put : wellFormed s ≡ true → leavesGap s ≡ true → (out exit : List ℕ) → nybbles exit ≡ sets (nybbles out) 0 (spread (take n codes)) → exit ≡ sets out 0 (nybblesOf s)
-  unfolding nybblesOf spelling
-  bytes-put w g out exit e =
-      let ns = spread (spelling s) in
-      let target = put-pack ns out 0 0 refl (evened-even (plainCodes s)) (spread-all (spelling s) (spelling-all s w g)) in
-      sym (packed exit) ∙ (ap pack (e ∙ (ap (sets (nybbles out) 0) spread-held ∙ sym target)) ∙ packed (sets out 0 (pack ns)))
+  pub bytes-put : (out exit : List ℕ) → nybbles exit ≡ sets (nybbles out) 0 (flatten (take n (map codeOf codes))) → exit ≡ sets out 0 (nybblesOf s)
+  unfolding nybblesOf
+  bytes-put out exit e =
+      let ns = flatten (spelling s) in
+      let target = put-pack ns out 0 0 refl (spelling-even s) (flat-all (spelling s) (spelling-all s)) in
+      sym (packed exit) ∙ (ap pack (e ∙ (ap (sets (nybbles out) 0) flat-held ∙ sym target)) ∙ packed (sets out 0 (pack ns)))

@@ -26,7 +26,7 @@ use Rattle.nybbles.specs.declared.code.Code.{Code}
 use Rattle.nybbles.specs.declared.progress.Progress.{Progress}
 use Rattle.nybbles.specs.Codes.{nybbles, codesOf}
 use Rattle.nybbles.specs.Read.{State, isExpiry, hasRoom, fault, marked, after, atEnd, readCodes, readNybbles}
-use Rattle.nybbles.specs.Inner.{stateOf, Passes, Moves, Next}
+use Rattle.nybbles.specs.Private.{stateOf, Passes, Moves, Next}
 
 -- the first check that fails
 module _ (st : State) (c : Code) where

@@ -1,7 +1,7 @@
 -- How much room a nybble list needs. Assumes nothing.
 use mathlib.Core.Path.{_≡_, refl}
 use mathlib.Core.Bool.{true}
-use mathlib.Core.List.{List, [], _∷_}
+use mathlib.Core.List.{List, [], _∷_, flatten}
 use Prim.Native.Nat.{ℕ, _*_, _%_, _≤_}
 use native.Mathlib.Omega.{arith}
 use lib.Dec.{eqb}
@@ -11,27 +11,26 @@ use Rattle.schedule.specs.Schedule.{leapsOf, expiryMonth, leavesGap, wellFormed
 use Rattle.schedule.proofs.Cases.{by-bool}
 use Rattle.schedule.proofs.Rounded.{rounded-gaps}
 use Rattle.calendar.proofs.Laws.{month-most}
-use Rattle.nybbles.specs.Write.{spread, anySingle, padded, evened, plainCodes, spelling, nybblesOf}
-use Rattle.nybbles.proofs.Evened.{halves-length, halves-few}
+use Rattle.nybbles.specs.Write.{anySingle, padded, evened, plainCodes, spelling, nybblesOf}
+use Rattle.nybbles.proofs.Codes.{All, more}
 use Rattle.nybbles.proofs.Stored.{list-short}
-use Rattle.nybbles.proofs.Division.{nybble-count}
+use Rattle.nybbles.proofs.Division.{IsCode, short, long, spelling-all, nybble-count}
 
 -- a code has at most two nybbles, and evening adds none
-spread-short : (cs : List ℕ) → length (spread cs) ≤ 2 * length cs
-unfolding spread
-spread-short [] = omega arith
-spread-short (c ∷ cs) =
-    let i = spread-short cs in
-    omega (arith, halves-length c (spread cs), halves-few c)
+flat-short : (cs : List (List ℕ)) → All IsCode cs → length (flatten cs) ≤ 2 * length cs
+unfolding flatten
+flat-short [] a = omega arith
+flat-short (c ∷ cs) (more (short h) a) = let i = flat-short cs a in omega arith
+flat-short (c ∷ cs) (more (long h l k) a) = let i = flat-short cs a in omega arith
 
-padded-length : (cs : List ℕ) → length (padded cs) ≡ length cs
+padded-length : (cs : List (List ℕ)) → length (padded cs) ≡ length cs
 unfolding padded
 padded-length [] = refl
 padded-length (c ∷ cs) = by-bool (anySingle cs) (λ a. simp (a, padded-length cs)) (λ a. simp a)
 
-evened-length : (cs : List ℕ) → length (evened cs) ≡ length cs
+evened-length : (cs : List (List ℕ)) → length (evened cs) ≡ length cs
 unfolding evened
-evened-length cs = by-bool (eqb (length (spread cs) % 2) 0) (λ a. simp a) (λ a. simp (a, padded-length cs))
+evened-length cs = by-bool (eqb (length (flatten cs) % 2) 1) (λ a. simp (a, padded-length cs)) (λ a. simp a)
 
 -- the nybble list of a well-formed schedule has at most 2,400 bytes
 pub at-most : (s : Schedule) → wellFormed s ≡ true → leavesGap s ≡ true → length (nybblesOf s) ≤ 2400
@@ -40,5 +39,5 @@ at-most s w g =
     let end = month-most (s .expiry) in
     let a = list-short (leapsOf s) 0 (expiryMonth s) (rounded-gaps s w g) in
     let b = evened-length (plainCodes s) in
-    let c = spread-short (spelling s) in
+    let c = flat-short (spelling s) (spelling-all s) in
     omega (arith, nybble-count s)

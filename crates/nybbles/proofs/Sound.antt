@@ -20,7 +20,7 @@ use Rattle.nybbles.specs.declared.code.Mark.the-variants.{Continues, Lea
 use Rattle.nybbles.specs.declared.code.Code.{Code}
 use Rattle.nybbles.specs.Codes.{nybbles, codesOf}
 use Rattle.nybbles.specs.Read.{State, fault, after, atEnd, readCodes, start, readNybbles}
-use Rattle.nybbles.specs.Inner.{Passes}
+use Rattle.nybbles.specs.Private.{Passes}
 use Rattle.nybbles.proofs.Codes.{All, more, Some, codes-some}
 use Rattle.nybbles.proofs.Reading.{passes, leap-room}
 

@@ -5,7 +5,7 @@ ghost use Prim.Native.Nat.{_*_, _≤_, _<_};
 ghost use lib.ListN.{length, getD};
 ghost use Rattle.schedule.specs.Schedule.{lastMonth};
 ghost use Rattle.nybbles.specs.Codes.{nybbles, markOf, single, wide};
-ghost use Rattle.nybbles.specs.Inner.{Next};
+ghost use Rattle.nybbles.specs.Private.{Next};
 
 // NP 00 is no leap: the gap continues.
 pub(crate) const NP_NONE: u8 = 0;

@@ -1,13 +1,12 @@
 // Written codes as bytes: two nybbles to a byte.
 use crate::spell::Codes;
 ghost use mathlib.Core.Path.{_≡_};
-ghost use mathlib.Core.List.{[]};
+ghost use mathlib.Core.List.{map, flatten};
 ghost use Prim.Native.Nat.{_+_, _*_, _≤_, _<_};
 ghost use lib.ListN.{length, take, set};
 ghost use lib.Seq.{sets};
 ghost use Rattle.nybbles.specs.Codes.{nybbles};
-ghost use Rattle.nybbles.specs.Write.{halves, spread};
-ghost use Rattle.nybbles.specs.Inner.{maxCodes};
+ghost use Rattle.nybbles.specs.Private.{maxCodes, codeOf};
 
 // Puts a nybble at a place, and leaves the other half of its byte as it is.
 fn put_nybble(out: &mut [u8], at: usize, n: u8)
@@ -25,8 +24,8 @@ fn put_nybble(out: &mut [u8], at: usize, n: u8)
 
 // Puts the nybbles of a code at a place, and returns the place after them.
 fn put_code(out: &mut [u8], at: usize, c: u8) -> usize
-    requires { ⌜ (at ≤ 2 * maxCodes) × (at + length (halves c []) ≤ length (nybbles (now out))) ⌝ }
-    ensures { λ r. ⌜ (r ≡ at + length (halves c [])) × (nybbles (now (out .exit)) ≡ sets (nybbles (now (out .entry))) at (halves c [])) ⌝ }
+    requires { ⌜ (at ≤ 2 * maxCodes) × (at + length (codeOf c) ≤ length (nybbles (now out))) ⌝ }
+    ensures { λ r. ⌜ (r ≡ at + length (codeOf c)) × (nybbles (now (out .exit)) ≡ sets (nybbles (now (out .entry))) at (codeOf c)) ⌝ }
 {
     if c < 16 {
         put_nybble(out, at, c);
@@ -39,8 +38,8 @@ fn put_code(out: &mut [u8], at: usize, c: u8) -> usize
 
 // Puts the nybbles of the first n codes at the start of an output that has room for them.
 pub(crate) fn put_codes(codes: &Codes, n: usize, out: &mut [u8])
-    requires { ⌜ ((n ≤ maxCodes) × (length (now codes) ≡ maxCodes)) × (length (spread (take n (now codes))) ≤ length (nybbles (now out))) ⌝ }
-    ensures { λ _. ⌜ nybbles (now (out .exit)) ≡ sets (nybbles (now (out .entry))) 0 (spread (take n (now (codes .entry)))) ⌝ }
+    requires { ⌜ ((n ≤ maxCodes) × (length (now codes) ≡ maxCodes)) × (length (flatten (take n (map codeOf (now codes)))) ≤ length (nybbles (now out))) ⌝ }
+    ensures { λ _. ⌜ nybbles (now (out .exit)) ≡ sets (nybbles (now (out .entry))) 0 (flatten (take n (map codeOf (now (codes .entry))))) ⌝ }
 {
     let mut at: usize = 0;
     let mut i: usize = 0;

@@ -8,7 +8,7 @@ ghost use mathlib.Core.Path.{_≡_};
 ghost use Rattle.schedule.specs.declared.Schedule.{Schedule};
 ghost use Rattle.schedule.specs.Inner.{SoFar};
 ghost use Rattle.nybbles.specs.Read.{hasRoom, isExpiry, fault};
-ghost use Rattle.nybbles.specs.Inner.{stateOf, Short, Passes, Moves};
+ghost use Rattle.nybbles.specs.Private.{stateOf, Short, Passes, Moves};
 
 // The months of the gap, those of the whole list, and how many leaps were read. The leaps stand in the words that are handed over.
 pub(crate) struct Progress {

@@ -1,5 +1,5 @@
 // The written codes of a schedule, in its one spelling.
-// A written code is one number: a single nybble as itself, two nybbles as the byte that they make.
+// A written code is held as one number: a single nybble as itself, two nybbles as the byte that they make.
 use crate::code::IN_MONTHS;
 use crate::code::IN_SIXES;
 use crate::code::NP_EXPIRY;
@@ -10,13 +10,12 @@ use schedule::Schedule;
 use schedule::Sign;
 ghost use mathlib.Core.Path.{_≡_};
 ghost use mathlib.Core.Bool.{true};
-ghost use mathlib.Core.List.{[]};
+ghost use mathlib.Core.List.{map, flatten};
 ghost use Prim.Native.Nat.{_+_, _≤_, _<_};
 ghost use lib.ListN.{length, take};
-ghost use lib.Seq.{sets};
 ghost use Rattle.schedule.specs.Schedule.{expiryMonth, leavesGap, wellFormed, maxGap};
-ghost use Rattle.nybbles.specs.Write.{npOf, pair, monthsCode, sixesCode, sixes, gapCodes, plainCodes, halves, spread, padded, spelling};
-ghost use Rattle.nybbles.specs.Inner.{maxCodes, Holds};
+ghost use Rattle.nybbles.specs.Write.{npOf, pair, monthsCode, sixesCode, sixes, gapCodes, plainCodes, padded, spelling};
+ghost use Rattle.nybbles.specs.Private.{maxCodes, codeOf, Stores, Holds};
 
 // Room for written codes: each has a month at least, so there are no more of them than months.
 pub(crate) const MAX_CODES: usize = 2400;
@@ -39,7 +38,7 @@ fn np_of(sign: Sign) -> u8
 // 1MNP and its G.
 fn pair(m: u8, np: u8, g: u8) -> u8
     requires { ⌜ (m < 2) × ((np < 4) × (g < 16)) ⌝ }
-    ensures { λ r. ⌜ r ≡ pair m np g ⌝ }
+    ensures { λ r. ⌜ codeOf r ≡ pair m np g ⌝ }
 {
     (8 + 4 * m + np) * 16 + g
 }
@@ -47,7 +46,7 @@ fn pair(m: u8, np: u8, g: u8) -> u8
 // The code of 1 to 16 months.
 fn months_code(np: u8, months: u32) -> u8
     requires { ⌜ (np < 4) × ((0 < months) × (months ≤ 16)) ⌝ }
-    ensures { λ r. ⌜ r ≡ monthsCode np months ⌝ }
+    ensures { λ r. ⌜ codeOf r ≡ monthsCode np months ⌝ }
 {
     pair(IN_MONTHS, np, (months - 1) as u8)
 }
@@ -55,7 +54,7 @@ fn months_code(np: u8, months: u32) -> u8
 // The code of 1 to 16 sixes: 1 to 8 sixes and a positive leap are a single nybble.
 fn sixes_code(np: u8, k: u32) -> u8
     requires { ⌜ (np < 4) × ((0 < k) × (k ≤ 16)) ⌝ }
-    ensures { λ r. ⌜ r ≡ sixesCode np k ⌝ }
+    ensures { λ r. ⌜ codeOf r ≡ sixesCode np k ⌝ }
 {
     let g = (k - 1) as u8;
     if np == NP_POSITIVE {
@@ -69,7 +68,7 @@ fn sixes_code(np: u8, k: u32) -> u8
 // Writes the codes of k sixes at a place, and returns the place after them.
 fn put_sixes(codes: &mut Codes, at: usize, np: u8, k: u32) -> usize
     requires { ⌜ ((np < 4) × (0 < k)) × (at + length (sixes np k) ≤ maxCodes) ⌝ }
-    ensures { λ r. ⌜ (r ≡ at + length (sixes np k)) × (now (codes .exit) ≡ sets (now (codes .entry)) at (sixes np k)) ⌝ }
+    ensures { λ r. ⌜ Stores (now (codes .entry)) (now (codes .exit)) at r (sixes np k) ⌝ }
 {
     let mut n = at;
     let mut left = k;
@@ -85,7 +84,7 @@ fn put_sixes(codes: &mut Codes, at: usize, np: u8, k: u32) -> usize
 // Writes the codes of a gap at a place, and returns the place after them.
 fn put_gap(codes: &mut Codes, at: usize, np: u8, gap: u32) -> usize
     requires { ⌜ ((np < 4) × ((0 < gap) × (gap ≤ maxGap))) × (at + length (gapCodes np gap) ≤ maxCodes) ⌝ }
-    ensures { λ r. ⌜ (r ≡ at + length (gapCodes np gap)) × (now (codes .exit) ≡ sets (now (codes .entry)) at (gapCodes np gap)) ⌝ }
+    ensures { λ r. ⌜ Stores (now (codes .entry)) (now (codes .exit)) at r (gapCodes np gap) ⌝ }
 {
     if gap % 6 == 0 {
         return put_sixes(codes, at, np, gap / 6);
@@ -121,7 +120,7 @@ fn put_gaps(s: Schedule, end: u32, codes: &mut Codes) -> usize
 
 // How many nybbles a code has.
 fn code_size(c: u8) -> usize
-    ensures { λ r. ⌜ (r ≡ length (halves c [])) × (r ≤ 2) ⌝ }
+    ensures { λ r. ⌜ (r ≡ length (codeOf c)) × (r ≤ 2) ⌝ }
 {
     if c < 16 { 1 } else { 2 }
 }
@@ -129,7 +128,7 @@ fn code_size(c: u8) -> usize
 // How many nybbles the first n codes have.
 pub(crate) fn nybble_count(codes: &Codes, n: usize) -> usize
     requires { ⌜ (n ≤ maxCodes) × (length (now codes) ≡ maxCodes) ⌝ }
-    ensures { λ r. ⌜ r ≡ length (spread (take n (now (codes .entry)))) ⌝ }
+    ensures { λ r. ⌜ r ≡ length (flatten (take n (map codeOf (now (codes .entry))))) ⌝ }
 {
     let mut count: usize = 0;
     let mut i: usize = 0;
@@ -143,7 +142,7 @@ pub(crate) fn nybble_count(codes: &Codes, n: usize) -> usize
 // Puts a 9 before the last single nybble of the first n codes, if there is one.
 fn pad(codes: &mut Codes, n: usize)
     requires { ⌜ (n ≤ maxCodes) × (length (now codes) ≡ maxCodes) ⌝ }
-    ensures { λ _. ⌜ Holds (now (codes .exit)) n (padded (take n (now (codes .entry)))) ⌝ }
+    ensures { λ _. ⌜ Holds (now (codes .exit)) n (padded (take n (map codeOf (now (codes .entry))))) ⌝ }
 {
     let mut i = n;
     while 0 < i {

@@ -19,7 +19,7 @@ returns c =
     let formed = (sym (c .before .before .before .before .before .before .before .before .before .before .before .before .before .before .is-well-formed .ensures) ∙ c .before .before .before .before .before .before .before .before .before .before .before .before .before .if1 .taken) in
     let gap = (sym (c .before .before .before .before .before .before .before .before .before .before .before .before .leaves-gap .ensures) ∙ c .before .before .before .before .before .before .before .before .before .before .before .if2 .taken) in
     answers.taken _ _ _ formed gap _ (packed.bytes-counted _ _ _ spelt _ (c .before .before .before .before .before .before .nybble-count .ensures)) (c .before .before .before .before .before .if3 .taken) _
-    (packed.bytes-put _ _ _ spelt formed gap _ _ (c .before .before .put-codes .ensures))
+    (packed.bytes-put _ _ _ spelt _ _ (c .before .before .put-codes .ensures))
 
 returns-2 : tie.Need-returns-2
 returns-2 c =

@@ -4,7 +4,7 @@ use mathlib.Core.Bool.{true, false}
 use native.Mathlib.Omega.{arith}
 use borrow.Author.Needs.{needs}
 use Rattle.nybbles.specs.Read.{hasRoom}
-use Rattle.nybbles.specs.Inner.{stateOf}
+use Rattle.nybbles.specs.Private.{stateOf}
 use Rattle.nybbles.proofs.Reading as reading
 use Rattle.nybbles.proofs.progress.fault_of.Statement.{statement}
 use Rattle.nybbles.proofs.progress.fault_of.Tie as tie

@@ -1,5 +1,5 @@
 -- `spell::put_gap` meets its contract: one answer for each kind of gap. Assumes nothing.
-use mathlib.Core.Path.{refl, ap}
+use mathlib.Core.Path.{ap}
 use native.Mathlib.Omega.{arith}
 use lib.ListN.{length}
 use borrow.Author.Needs.{needs}
@@ -22,7 +22,7 @@ element-write-codes c =
 returns-2 : tie.Need-returns-2
 returns-2 c =
     let start = c .before .before .before in
-    rw (stored.gap-months (start .args .np) (start .args .gap) (c .before .before .if1 .left) (c .before .if2 .taken), c .months-code .ensures) (refl, refl)
+    stored.months-stored (start .args .np) (start .args .gap) (c .before .before .if1 .left) (c .before .if2 .taken) _ _ _ (c .months-code .ensures)
 
 -- whole years and months
 put-sixes-requires-2 : tie.Need-put-sixes-requires-2
@@ -34,13 +34,13 @@ element-write-codes-2 : tie.Need-element-write-codes-2
 element-write-codes-2 c =
     let large = c .before .before .before in
     let start = large .before .before in
-    omega (arith, start .pre .1, c .before .put-sixes2 .ensures .0, stored.years-length (start .args .np) (start .args .gap) (large .before .if1 .left) (large .if2 .left))
+    omega (arith, start .pre .1, c .before .put-sixes2 .ensures .count, stored.years-length (start .args .np) (start .args .gap) (large .before .if1 .left) (large .if2 .left))
 
 returns-3 : tie.Need-returns-3
 returns-3 c =
     let put = c .before .put-sixes2 .ensures in
     let large = c .before .before .before in
-    stored.years-stored _ _ (large .before .if1 .left) (large .if2 .left) _ _ _ _ _ (put .0) (put .1) (c .months-code2 .ensures)
+    stored.years-stored _ _ (large .before .if1 .left) (large .if2 .left) _ _ _ _ _ put (c .months-code2 .ensures)
 
 pub put-gap-spec : {M : Type 1} → statement M
 put-gap-spec =

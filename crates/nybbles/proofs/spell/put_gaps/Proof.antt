@@ -30,13 +30,13 @@ put-gap-requires c κs =
 loop-again : tie.Need-loop-again Inv-loop μ-loop
 loop-again c =
     let inside = c .before .before .before .before .before in
-    filled.fills-step _ _ _ _ _ _ (inside .before .loop .inv) (inside .loop-test .taken) _ _ _ (c .before .np-of .ensures) (c .put-gap .ensures .0) (c .put-gap .ensures .1)
+    filled.fills-step _ _ _ _ _ _ (inside .before .loop .inv) (inside .loop-test .taken) _ _ _ (c .before .np-of .ensures) (c .put-gap .ensures)
 
 -- to the expiry
 returns : tie.Need-returns Inv-loop μ-loop
 returns c =
     let ended = c .before .before in
-    filled.fills-end _ _ _ _ _ _ (ended .before .loop .inv) (ended .loop-test .left) _ (ended .before .before .pre .0 .2) (ended .before .before .pre .1) _ _ (c .put-gap2 .ensures .0) (c .put-gap2 .ensures .1)
+    filled.fills-end _ _ _ _ _ _ (ended .before .loop .inv) (ended .loop-test .left) _ (ended .before .before .pre .0 .2) (ended .before .before .pre .1) _ _ (c .put-gap2 .ensures)
 
 pub put-gaps-spec : {M : Type 1} → statement M
 put-gaps-spec =

@@ -1,8 +1,10 @@
 -- `spell::sixes_code` meets its contract. Assumes nothing.
 use mathlib.Core.Path.{_∙_}
 use mathlib.Core.Logic.{⊎-elim}
+use native.Mathlib.Omega.{arith}
 use borrow.Author.Needs.{needs}
 use borrow.Author.Tests.{eq-eqb, ne-eqb, le-leb, lt-leb}
+use Rattle.nybbles.proofs.Held.{held-one}
 use Rattle.nybbles.proofs.spell.sixes_code.Statement.{statement}
 use Rattle.nybbles.proofs.spell.sixes_code.Tie as tie
 
@@ -17,6 +19,6 @@ sixes-code-spec =
     (tie.spec
     (λ c. search needs)
     (λ c. search needs)
-    (λ c. simp (eq-eqb _ _ (c .before .if1 .taken), le-leb _ _ (c .if2 .taken)))
+    (λ c. held-one _ (omega arith) ∙ simp (eq-eqb _ _ (c .before .if1 .taken), le-leb _ _ (c .if2 .taken)))
     (λ c κs. search needs)
     returns-2)

@@ -1,10 +1,12 @@
--- What the private functions promise to each other. No promise to a caller rests on reading this file.
+-- What only private functions are held to; no public contract or promise speaks of it.
 -- Assumes nothing: these are definitions.
-use Prim.Native.Nat.{ℕ, _+_, _*_, _≤_, _<_}
+use Prim.Native.Nat.{ℕ, _+_, _*_, _/_, _%_, _≤_, _<_}
 use mathlib.Core.Path.{_≡_}
-use mathlib.Core.Bool.{true}
-use mathlib.Core.List.{List, _∷_}
+use mathlib.Core.Bool.{true, cond}
+use mathlib.Core.List.{List, [], _∷_, map}
+use lib.Dec.{ltb}
 use lib.ListN.{length, take, drop}
+use lib.Seq.{sets}
 use Rattle.schedule.specs.declared.Schedule.{Schedule}
 use Rattle.schedule.specs.Schedule.{maxLeaps, maxGap, lastMonth}
 use Rattle.schedule.specs.Inner.{SoFar}
@@ -48,8 +50,17 @@ pub record Next (bytes : List ℕ) (at : ℕ) (c : Code) : Type 0 where
 abbrev pub maxCodes : ℕ
 maxCodes = lastMonth
 
+-- the nybbles of a written code that is held as a number: below 16 a single nybble, else the two that a byte has
+unfoldable pub codeOf : ℕ → List ℕ
+codeOf b = cond (ltb b 16) (b ∷ []) ((b / 16) ∷ (b % 16) ∷ [])
+
+-- codes stored from a place on, where `next` is the place after them
+pub record Stores (codes codes′ : List ℕ) (at next : ℕ) (cs : List (List ℕ)) : Type 0 where
+  pub count : next ≡ at + length cs
+  pub stored : map codeOf codes′ ≡ sets (map codeOf codes) at cs
+
 -- the room for written codes holds n of them
-pub record Holds (codes : List ℕ) (n : ℕ) (cs : List ℕ) : Type 0 where
+pub record Holds (codes : List ℕ) (n : ℕ) (cs : List (List ℕ)) : Type 0 where
   pub few : n ≤ maxCodes
   pub full : length codes ≡ maxCodes
-  pub held : take n codes ≡ cs
+  pub held : take n (map codeOf codes) ≡ cs
