@@ -1,15 +1,32 @@
--- An answer about a list that was read, and the refusal of one that does not read. Assumes nothing.
-use mathlib.Core.Path.{_≡_}
+-- An answer about a list that was read, by what a reader hands over of it: the number of its refusal, or the words that it fills.
+-- Assumes nothing.
+use mathlib.Core.Path.{_≡_, sym, ap, _∙_}
+use mathlib.Core.Bool.{true}
+use mathlib.Core.List.{List}
 use Prim.Native.Nat.{ℕ}
 use borrow.Author.Tests.{eq-eqb, ne-eqb}
-use Rattle.schedule.specs.Schedule.{Schedule}
-use Rattle.schedule.specs.Answers.{Reading, byReading}
+use Rattle.schedule.specs.Schedule.{Schedule, leavesGap, wellFormed}
+use Rattle.schedule.specs.WordLayout.{meant}
+use Rattle.schedule.specs.Answers.{Reading, HandsReading, byReading}
+use Rattle.schedule.proofs.Sound.{Formed}
+use Rattle.schedule.proofs.Rounded.{first-leaves-gap}
+use Rattle.schedule.proofs.Meant.{hands-meant}
 
-module _ {A : Type 0} {r s : Reading} (refuse : ℕ → ℕ → A) (f : Schedule → A) (e : r ≡ s) where
-  pub read-refused : (r .number ≡ 0 → ⊥) → byReading s refuse f ≡ refuse (r .number) (r .place)
-  unfolding byReading
-  read-refused h = rw (← e) (simp (ne-eqb (r .number) 0 h))
+module _ {r : Reading} (good : Formed r) {n p : ℕ} {words : List ℕ} (h : HandsReading r n words p) where
+  -- a list that is read is well formed, and every writer takes it
+  pub read-well : n ≡ 0 → wellFormed (meant words) ≡ true
+  read-well z = ap wellFormed (hands-meant r good n p words h) ∙ good .formed (sym (h .its-number) ∙ z)
 
-  pub read-taken : r .number ≡ 0 → byReading s refuse f ≡ f (r .schedule)
-  unfolding byReading
-  read-taken h = rw (← e) (simp (eq-eqb (r .number) 0 h))
+  pub read-leaves-gap : n ≡ 0 → leavesGap (meant words) ≡ true
+  read-leaves-gap z = ap leavesGap (hands-meant r good n p words h) ∙ first-leaves-gap (r .schedule) (good .formed (sym (h .its-number) ∙ z)) (good .first (sym (h .its-number) ∙ z))
+
+  module _ {A : Type 0} (refuse : ℕ → ℕ → A) (f : Schedule → A) where
+    -- the refusal of one that is not read
+    pub read-refused : (n ≡ 0 → ⊥) → byReading r refuse f ≡ refuse n p
+    unfolding byReading
+    read-refused unread = rw (h .its-number, h .its-place) (simp (ne-eqb (r .number) 0 (λ z. unread (h .its-number ∙ z))))
+
+    -- the answer about one that is
+    pub read-taken : n ≡ 0 → byReading r refuse f ≡ f (meant words)
+    unfolding byReading
+    read-taken z = simp (eq-eqb (r .number) 0 (sym (h .its-number) ∙ z)) (ap f (sym (hands-meant r good n p words h)))

@@ -12,10 +12,10 @@ pub mod Sound
 pub mod SoFar
 pub mod Meant
 pub mod Answers
-pub mod ByReading
 pub mod Extension
 pub mod Order
 pub mod Rounded
+pub mod ByReading
 pub mod InWords
 pub mod GoesOn
 pub mod Worked
