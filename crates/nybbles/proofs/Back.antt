@@ -6,20 +6,16 @@ use mathlib.Core.List.{List, [], _∷_, _++_, map, map-append, append-nil, flatt
 use Prim.Native.Nat.{ℕ, _+_, _-_, _%_, _≤_, _<_}
 use native.Mathlib.Omega.{arith}
 use lib.Dec.{eqb}
-use lib.ListN.{length, length-map}
-use lib.Seq.{length-take-le}
+use lib.ListN.{length, length-append, length-map}
 use borrow.Author.Tests.{lt-ltb, le-ltb, le-leb, eqb-true}
 use Rattle.schedule.specs.declared.Sign.{Sign}
 use Rattle.schedule.specs.declared.Sign.the-variants.{Positive, Negative}
-use Rattle.schedule.specs.declared.Leap.{Leap}
-use Rattle.schedule.specs.declared.Schedule.{Schedule}
-use Rattle.schedule.specs.declared.Reading.{Reading}
-use Rattle.schedule.specs.Schedule.{monthStart, blankSchedule, leapsOf, expiryMonth, roundedDown, leavesGap, wellFormed}
+use Rattle.schedule.specs.Schedule.{Leap, Schedule, monthStart, blankSchedule, expiryMonth, roundedDown, leavesGap, wellFormed}
 use Rattle.calendar.specs.Calendar.{startsMonth}
-use Rattle.schedule.specs.Answers.{accepted, withLeap}
+use Rattle.schedule.specs.Answers.{Reading, accepted, withLeap}
 use Rattle.schedule.proofs.Cases.{by-bool}
 use Rattle.schedule.proofs.Gaps.{fits-lt, fits-le, parts}
-use Rattle.schedule.proofs.Rounded.{gapsTo, first-to, later-to, before-to, rounded-gaps, rounded-well, rounds-itself, first-leaves-gap}
+use Rattle.schedule.proofs.Rounded.{gapsTo, first-to, later-to, before-to, rounded-gaps, rounds-itself, first-leaves-gap}
 use Rattle.calendar.proofs.Laws.{month-most}
 use Rattle.schedule.proofs.Adds.{adds, made-again}
 use Rattle.nybbles.proofs.Sound.{accepted-first}
@@ -52,11 +48,11 @@ module _ (s : Schedule) (month : ℕ) (m : month ≤ 2400) where
       (gap-back mark rest r final (g + c .months) (t + c .months) w (omega arith) (omega arith) (p + 1) l (omega arith))
 
   -- a leap, and the expiry
-  leap-back : (k : Sign) (rest : List Code) (r : Reading) → s .count < 256 → Takes (at 0 month (withLeap s month k)) rest r
+  leap-back : (k : Sign) (rest : List Code) (r : Reading) → length (s .leaps) < 256 → Takes (at 0 month (withLeap s month k)) rest r
       → (c : Code) (g t : ℕ) → c .mark ≡ Leaps k → g + c .months ≤ 999 → t + c .months ≡ month → Takes (at g t s) (c ∷ rest) r
   unfolding readCodes fault after
   leap-back k rest r room takes c g t e f q p l h =
-      simp (e, q, le-leb (g + c .months) 999 f, le-leb month 2400 m, lt-ltb (s .count) 256 room) (takes (p + 1) l (omega arith))
+      simp (e, q, le-leb (g + c .months) 999 f, le-leb month 2400 m, lt-ltb (length (s .leaps)) 256 room) (takes (p + 1) l (omega arith))
 
   end-back : (c : Code) (g t : ℕ) → c .mark ≡ Expires → g + c .months ≤ 999 → t + c .months ≡ month → Takes (at g t s) (c ∷ []) (accepted s (monthStart month))
   unfolding readCodes fault after
@@ -67,7 +63,7 @@ np-mark Positive = refl
 np-mark Negative = refl
 
 -- the codes of a list of leaps and of the expiry
-list-back : (ls : List Leap) (from expiry : ℕ) (s : Schedule) → gapsTo from ls expiry ≡ true → expiry ≤ 2400 → s .count + length ls ≤ 256
+list-back : (ls : List Leap) (from expiry : ℕ) (s : Schedule) → gapsTo from ls expiry ≡ true → expiry ≤ 2400 → length (s .leaps) + length ls ≤ 256
     → Takes (at 0 from s) (map readAs (codesFrom from ls expiry)) (accepted (adds s ls) (monthStart expiry))
 unfolding codesFrom gapsTo adds
 list-back [] from expiry s f h room =
@@ -82,7 +78,7 @@ list-back (l ∷ ls) from expiry s f h room =
     let d : m < expiry = before-to ls m expiry (later-to from l ls expiry f) in
     let i : m ≤ 2400 = omega arith in
     let w = rw (np-mark (l .sign)) at (written-means (npOf (l .sign)) (m - from) (np-small (l .sign)) (omega arith)) in
-    let rest = list-back ls m expiry (withLeap s m (l .sign)) (later-to from l ls expiry f) h (omega arith) in
+    let rest = list-back ls m expiry (withLeap s m (l .sign)) (later-to from l ls expiry f) h (omega (arith, length-append (s .leaps) (l ∷ []))) in
     rw map-append
     (gap-back s m i (Leaps (l .sign)) _ _ (leap-back s m i (l .sign) (map readAs (codesFrom m ls expiry)) _ (omega arith) rest) 0 from w (omega arith) (omega arith))
 
@@ -107,24 +103,23 @@ evened-plain : (cs : List (List ℕ)) → map plain (map readAs (evened cs)) ≡
 unfolding evened
 evened-plain cs = by-bool (eqb (length (flatten cs) % 2) 1) (λ a. simp a (padded-plain cs)) (λ a. simp a)
 
--- the nybble list of a well-formed schedule with 256 places is read as the schedule rounded down
-pub reads-back-rounded : (s : Schedule) → length (s .leaps) ≡ 256 → wellFormed s ≡ true → leavesGap s ≡ true → readNybbles (nybblesOf s) ≡ record { number = 0; place = 0; schedule = roundedDown s }
+-- the nybble list of a well-formed schedule is read as the schedule rounded down
+pub reads-back-rounded : (s : Schedule) → wellFormed s ≡ true → leavesGap s ≡ true → readNybbles (nybblesOf s) ≡ record { number = 0; place = 0; schedule = roundedDown s }
 unfolding spelling
-reads-back-rounded s full w g =
+reads-back-rounded s w g =
     let p = parts s w in
-    let used = length-take-le (s .count) (s .leaps) (omega (arith, p .room)) in
     let cs = map plain (map readAs (plainCodes s)) in
     let same : map plain (codesOf (nybbles (nybblesOf s))) ≡ cs =
     ap (λ (ms : List ℕ). map plain (codesOf ms)) (no-nybble-lost s) ∙ (ap (map plain) (divided (spelling s) (spelling-all s)) ∙ evened-plain (plainCodes s)) in
-    let taken : readPlain cs ≡ accepted (adds blankSchedule (leapsOf s)) (monthStart (expiryMonth s)) =
-    list-back (leapsOf s) 0 (expiryMonth s) blankSchedule (rounded-gaps s w g) (month-most (s .expiry)) (omega (arith, p .room)) 0 (length cs) (omega (arith, length-map (map readAs (plainCodes s)) plain)) in
+    let taken : readPlain cs ≡ accepted (adds blankSchedule (s .leaps)) (monthStart (expiryMonth s)) =
+    list-back (s .leaps) 0 (expiryMonth s) blankSchedule (rounded-gaps s w g) (month-most (s .expiry)) (omega (arith, p .room)) 0 (length cs) (omega (arith, length-map (map readAs (plainCodes s)) plain)) in
     let read = plain-read (nybblesOf s) in
-    let alike : readPlain (map plain (codesOf (nybbles (nybblesOf s)))) ≡ accepted (adds blankSchedule (leapsOf s)) (monthStart (expiryMonth s)) = ap readPlain same ∙ taken in
-    read .same (read .number ∙ ap (λ (r : Reading). r .number) alike) ∙ (alike ∙ made-again (roundedDown s) full (rounded-well s w g))
+    let alike : readPlain (map plain (codesOf (nybbles (nybblesOf s)))) ≡ accepted (adds blankSchedule (s .leaps)) (monthStart (expiryMonth s)) = ap readPlain same ∙ taken in
+    read .same (read .number ∙ ap (λ (r : Reading). r .number) alike) ∙ (alike ∙ made-again (roundedDown s))
 
 -- so every one that expires on the first of a month is read back as itself
-pub reads-back : (s : Schedule) → length (s .leaps) ≡ 256 → wellFormed s ≡ true → startsMonth (s .expiry) ≡ true → readNybbles (nybblesOf s) ≡ record { number = 0; place = 0; schedule = s }
-reads-back s full w m = reads-back-rounded s full w (first-leaves-gap s w m) ∙ ap (λ (t : Schedule). record { number = 0; place = 0; schedule = t }) (rounds-itself s m)
+pub reads-back : (s : Schedule) → wellFormed s ≡ true → startsMonth (s .expiry) ≡ true → readNybbles (nybblesOf s) ≡ record { number = 0; place = 0; schedule = s }
+reads-back s w m = reads-back-rounded s w (first-leaves-gap s w m) ∙ ap (λ (t : Schedule). record { number = 0; place = 0; schedule = t }) (rounds-itself s m)
 
 -- and no other does
 pub only-first : (s : Schedule) → readNybbles (nybblesOf s) ≡ record { number = 0; place = 0; schedule = s } → startsMonth (s .expiry) ≡ true

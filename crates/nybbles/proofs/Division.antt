@@ -8,9 +8,7 @@ use native.Mathlib.Omega.{arith}
 use lib.Dec.{ltb, leb, eqb}
 use lib.ListN.{length, length-append}
 use borrow.Author.Tests.{ltb-false, leb-true, eqb-true, eqb-false}
-use Rattle.schedule.specs.declared.Leap.{Leap}
-use Rattle.schedule.specs.declared.Schedule.{Schedule}
-use Rattle.schedule.specs.Schedule.{leapsOf, expiryMonth}
+use Rattle.schedule.specs.Schedule.{Leap, Schedule, expiryMonth}
 use Rattle.schedule.proofs.Cases.{by-bool, by-cond}
 use Rattle.nybbles.specs.declared.code.Code.{Code}
 use Rattle.nybbles.specs.Codes.{nybbles, single, wide, codesOf, npPositive, npExpiry}
@@ -71,7 +69,7 @@ padded-all (c ∷ cs) (more h a) =
 pub spelling-all : (s : Schedule) → All IsCode (spelling s)
 unfolding spelling evened
 spelling-all s =
-    let a = list-all (leapsOf s) 0 (expiryMonth s) in
+    let a = list-all (s .leaps) 0 (expiryMonth s) in
     by-cond (All IsCode) (eqb (length (flatten (plainCodes s)) % 2) 1) (λ e. padded-all (plainCodes s) a) (λ e. a)
 
 -- what a written code is read as; there is none without a nybble
@@ -144,7 +142,7 @@ length-pack (a ∷ b ∷ ns) = let i = length-pack ns in omega arith
 -- the nybble count is even: two nybbles a byte
 pub spelling-even : (s : Schedule) → length (flatten (spelling s)) % 2 ≡ 0
 unfolding spelling
-spelling-even s = evened-even (plainCodes s) (list-all (leapsOf s) 0 (expiryMonth s))
+spelling-even s = evened-even (plainCodes s) (list-all (s .leaps) 0 (expiryMonth s))
 
 pub nybble-count : (s : Schedule) → length (flatten (spelling s)) ≡ 2 * length (nybblesOf s)
 unfolding nybblesOf

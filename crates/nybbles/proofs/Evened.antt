@@ -8,7 +8,7 @@ use native.Mathlib.Omega.{arith}
 use lib.ListN.{length, getD, take, drop, set, length-set, length-map, length-append, drop-of-length-le, List·getD-map}
 use lib.Seq.{length-take-le, getD-take, take-set-lt}
 use borrow.Author.Tests.{eq-eqb, ne-eqb}
-use Rattle.schedule.specs.declared.Schedule.{Schedule}
+use Rattle.schedule.specs.Schedule.{Schedule}
 use Rattle.schedule.proofs.Cases.{by-bool}
 use Rattle.nybbles.specs.Write.{isSingle, anySingle, padded, evened, plainCodes, spelling}
 use Rattle.nybbles.specs.Private.{codeOf, Holds}

@@ -7,7 +7,7 @@ use native.Mathlib.Numerals.{add-one}
 use native.Mathlib.Omega.{arith}
 use lib.ListN.{length, getD, take, drop, set}
 use lib.Seq.{sets, length-sets, getD-set-other, set-getD}
-use Rattle.schedule.specs.declared.Schedule.{Schedule}
+use Rattle.schedule.specs.Schedule.{Schedule}
 use Rattle.nybbles.specs.Codes.{nybbles}
 use Rattle.nybbles.specs.Write.{pack, spelling, nybblesOf}
 use Rattle.nybbles.specs.Private.{codeOf, Holds}

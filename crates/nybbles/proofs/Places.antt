@@ -8,8 +8,7 @@ use lib.Dec.{ltb, leb, eqb}
 use lib.ListN.{length}
 use borrow.Author.Tests.{eqb-false}
 use Rattle.refusals.specs.Refusals.{endsEarly, notAllowed}
-use Rattle.schedule.specs.declared.Reading.{Reading}
-use Rattle.schedule.specs.Answers.{refusal}
+use Rattle.schedule.specs.Answers.{Reading, refusal}
 use Rattle.schedule.proofs.Cases.{by-cond}
 use Rattle.nybbles.specs.declared.code.Code.{Code}
 use Rattle.nybbles.specs.Codes.{nybbles, codesOf}
@@ -30,7 +29,7 @@ unfolding fault
 fault-other st c =
     by-cond (λ (n : ℕ). (n ≡ 0 → ⊥) → 2 < n) (leb (st .gap + c .months) 999)
     (λ a. by-cond (λ (n : ℕ). (n ≡ 0 → ⊥) → 2 < n) (leb (st .total + c .months) 2400)
-    (λ b. by-cond (λ (n : ℕ). (n ≡ 0 → ⊥) → 2 < n) (hasRoom (c .mark) (st .schedule .count)) (λ d z. absurd (omega arith)) (λ d z. omega arith))
+    (λ b. by-cond (λ (n : ℕ). (n ≡ 0 → ⊥) → 2 < n) (hasRoom (c .mark) (length (st .schedule .leaps))) (λ d z. absurd (omega arith)) (λ d z. omega arith))
     (λ b z. omega arith))
     (λ a z. omega arith)
 

@@ -8,8 +8,7 @@ use native.Mathlib.Omega.{arith}
 use lib.Dec.{eqb}
 use lib.ListN.{length, length-map}
 use borrow.Author.Tests.{lt-ltb, le-ltb, eqb-false}
-use Rattle.schedule.specs.declared.Reading.{Reading}
-use Rattle.schedule.specs.Answers.{refusal}
+use Rattle.schedule.specs.Answers.{Reading, refusal}
 use Rattle.schedule.proofs.Cases.{by-bool}
 use Rattle.nybbles.specs.declared.code.Code.{Code}
 use Rattle.nybbles.specs.Codes.{nybbles, codesOf}

@@ -10,14 +10,12 @@ use lib.Dec.{leb}
 use borrow.Author.Tests.{ltb-true, lt-ltb, le-ltb, leb-true, le-leb, lt-leb, eq-eqb, ne-eqb}
 use Rattle.refusals.specs.Refusals.{badGap, pastLastMonth, tooManyLeaps}
 use Rattle.schedule.specs.declared.Sign.{Sign}
-use Rattle.schedule.specs.declared.Schedule.{Schedule}
-use Rattle.schedule.specs.declared.Reading.{Reading}
-use Rattle.schedule.specs.Schedule.{maxGap, lastMonth, blankSchedule}
+use Rattle.schedule.specs.Schedule.{Schedule, maxGap, lastMonth, blankSchedule}
 use Rattle.schedule.specs.WordLayout.{wordOfSign}
-use Rattle.schedule.specs.Inner.{SoFar}
+use Rattle.schedule.specs.Private.{SoFar}
 use Rattle.calendar.specs.Calendar.{monthStart}
 use Rattle.calendar.proofs.Laws.{start-min}
-use Rattle.schedule.specs.Answers.{refusal, accepted, HandsReading}
+use Rattle.schedule.specs.Answers.{Reading, refusal, accepted, HandsReading}
 use Rattle.schedule.proofs.Cases.{by-bool}
 use Rattle.schedule.proofs.SoFar.{so-far-blank, so-far-leap, so-far-end}
 use Rattle.nybbles.specs.declared.code.Mark.{Mark}
@@ -40,21 +38,21 @@ module _ (st : State) (c : Code) where
     total-fault b = simp (le-leb (st .gap + c .months) maxGap a, lt-leb (st .total + c .months) lastMonth b)
 
     module _ (b : st .total + c .months ≤ lastMonth) where
-      pub room-fault : hasRoom (c .mark) (st .schedule .count) ≡ false → tooManyLeaps ≡ fault st c
+      pub room-fault : hasRoom (c .mark) (length (st .schedule .leaps)) ≡ false → tooManyLeaps ≡ fault st c
       unfolding fault
       room-fault d = simp (le-leb (st .gap + c .months) maxGap a, le-leb (st .total + c .months) lastMonth b, d)
 
-      pub no-fault : hasRoom (c .mark) (st .schedule .count) ≡ true → 0 ≡ fault st c
+      pub no-fault : hasRoom (c .mark) (length (st .schedule .leaps)) ≡ true → 0 ≡ fault st c
       unfolding fault
       no-fault d = simp (le-leb (st .gap + c .months) maxGap a, le-leb (st .total + c .months) lastMonth b, d)
 
 -- a code that has no fault
-pub passes : (st : State) (c : Code) → fault st c ≡ 0 → Passes (st .gap) (st .total) (st .schedule .count) c
+pub passes : (st : State) (c : Code) → fault st c ≡ 0 → Passes (st .gap) (st .total) (length (st .schedule .leaps)) c
 unfolding fault
 passes st c e =
     by-bool (leb (st .gap + c .months) 999)
     (λ a. by-bool (leb (st .total + c .months) 2400)
-    (λ b. by-bool (hasRoom (c .mark) (st .schedule .count))
+    (λ b. by-bool (hasRoom (c .mark) (length (st .schedule .leaps)))
     (λ d. record { gap-fits = leb-true _ _ a; total-fits = leb-true _ _ b; room = d })
     (λ d. absurd (omega (arith, simp (a, b, d) at e))))
     (λ b. absurd (omega (arith, simp (a, b) at e))))
@@ -70,7 +68,7 @@ pub leap-after : (p : Progress) (c : Code) (words : List ℕ) (k : Sign) (w : �
     → Moves p (record { gap = 0; total = p .total + c .months; count = p .count + 1 }) (set (set words (2 * p .count) (p .total + c .months)) (2 * p .count + 1) w) s c
 unfolding after
 leap-after p c words k w m h e s kept =
-    record { state = rw m; kept = rw m (so-far-leap s (p .count) words kept h (p .total + c .months) k w e); few = λ _. omega arith }
+    record { state = rw m; kept = rw m (so-far-leap s (p .count) words kept h (p .total + c .months) k w e) }
 
 -- the months after a code
 marked-total : (m : Mark) (g t : ℕ) (s : Schedule) → marked m g t s .total ≡ t
@@ -119,7 +117,6 @@ pub record Reads (bytes words : List ℕ) (p : Progress) (at : ℕ) : Type 0 whe
   pub short : at ≤ 2 * p .total
   pub gap-fits : p .gap ≤ 999
   pub total-fits : p .total ≤ 2400
-  pub few : p .count ≤ 256
   pub so-far : Schedule
   pub kept : SoFar so-far (p .count) words
   pub same : readNybbles bytes ≡ reading bytes at (stateOf p so-far)
@@ -132,7 +129,6 @@ begins bytes =
       short = omega arith;
       gap-fits = omega arith;
       total-fits = omega arith;
-      few = omega arith;
       so-far = blankSchedule;
       kept = so-far-blank;
       same = refl;
@@ -146,7 +142,7 @@ module _ (bytes words : List ℕ) (at : ℕ) (p : Progress) (h : Reads bytes wor
   unfolding st
   ends-early l n place out o = rw (h .same ∙ ended bytes at st l) o
 
-  module _ (c : Code) (next : Next bytes at c) (f : ℕ) (q : (s : Schedule) → s .count ≡ p .count → f ≡ fault (stateOf p s) c) where
+  module _ (c : Code) (next : Next bytes at c) (f : ℕ) (q : (s : Schedule) → length (s .leaps) ≡ p .count → f ≡ fault (stateOf p s) c) where
     found : f ≡ fault st c
     unfolding st
     found = q (h .so-far) (h .kept .its-count)
@@ -179,7 +175,6 @@ module _ (bytes words : List ℕ) (at : ℕ) (p : Progress) (h : Reads bytes wor
               short = omega (arith, h .short, next .two, next .some);
               gap-fits = omega (arith, passed .gap-fits);
               total-fits = omega (arith, passed .total-fits);
-              few = moved .few (h .few);
               so-far = after st c .schedule;
               kept = moved .kept;
               same = h .same ∙ (goes bytes at st c next (sym found ∙ e) (sym m ∙ b) ∙ ap (reading bytes (at + c .size)) (sym a));
@@ -206,4 +201,4 @@ module _ (bytes words : List ℕ) (at : ℕ) (p : Progress) (h : Reads bytes wor
               rw (is, d ∙ start-min inside) (so-far-end (after st c .schedule) (p′ .count) words′ (moved .kept) (monthStart (p′ .total)))
 
           pub few-after : p′ .count ≤ 256
-          few-after = moved .few (h .few)
+          few-after = moved .kept .room

@@ -6,8 +6,7 @@ use Prim.Native.Nat.{ℕ, _*_, _%_, _≤_}
 use native.Mathlib.Omega.{arith}
 use lib.Dec.{eqb}
 use lib.ListN.{length}
-use Rattle.schedule.specs.declared.Schedule.{Schedule}
-use Rattle.schedule.specs.Schedule.{leapsOf, expiryMonth, leavesGap, wellFormed}
+use Rattle.schedule.specs.Schedule.{Schedule, expiryMonth, leavesGap, wellFormed}
 use Rattle.schedule.proofs.Cases.{by-bool}
 use Rattle.schedule.proofs.Rounded.{rounded-gaps}
 use Rattle.calendar.proofs.Laws.{month-most}
@@ -37,7 +36,7 @@ pub at-most : (s : Schedule) → wellFormed s ≡ true → leavesGap s ≡ true 
 unfolding spelling
 at-most s w g =
     let end = month-most (s .expiry) in
-    let a = list-short (leapsOf s) 0 (expiryMonth s) (rounded-gaps s w g) in
+    let a = list-short (s .leaps) 0 (expiryMonth s) (rounded-gaps s w g) in
     let b = evened-length (plainCodes s) in
     let c = flat-short (spelling s) (spelling-all s) in
     omega (arith, nybble-count s)

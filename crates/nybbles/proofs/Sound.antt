@@ -34,7 +34,7 @@ record Right (base : ℕ) (st : State) : Type 0 where
   total : st .total ≡ base + st .gap
   sound : Sound base (st .schedule)
 
-module _ (st : State) (c : Code) (base : ℕ) (r : Right base st) (h : 0 < c .months) (s : Passes (st .gap) (st .total) (st .schedule .count) c) where
+module _ (st : State) (c : Code) (base : ℕ) (r : Right base st) (h : 0 < c .months) (s : Passes (st .gap) (st .total) (length (st .schedule .leaps)) c) where
   month : st .total + c .months ≡ base + (st .gap + c .months)
   month = omega (arith, r .total)
 

@@ -7,9 +7,8 @@ use mathlib.Core.List.{List, [], _∷_, map}
 use lib.Dec.{ltb}
 use lib.ListN.{length, take, drop}
 use lib.Seq.{sets}
-use Rattle.schedule.specs.declared.Schedule.{Schedule}
-use Rattle.schedule.specs.Schedule.{maxLeaps, maxGap, lastMonth}
-use Rattle.schedule.specs.Inner.{SoFar}
+use Rattle.schedule.specs.Schedule.{Schedule, maxGap, lastMonth}
+use Rattle.schedule.specs.Private.{SoFar}
 use Rattle.nybbles.specs.declared.code.Code.{Code}
 use Rattle.nybbles.specs.declared.progress.Progress.{Progress}
 use Rattle.nybbles.specs.Codes.{nybbles, codesOf}
@@ -35,7 +34,6 @@ pub record Passes (gap total count : ℕ) (c : Code) : Type 0 where
 pub record Moves (p p′ : Progress) (words′ : List ℕ) (s : Schedule) (c : Code) : Type 0 where
   pub state : stateOf p′ (after (stateOf p s) c .schedule) ≡ after (stateOf p s) c
   pub kept : SoFar (after (stateOf p s) c .schedule) (p′ .count) words′
-  pub few : p .count ≤ maxLeaps → p′ .count ≤ maxLeaps
 
 -- a code starts at a place
 pub record Next (bytes : List ℕ) (at : ℕ) (c : Code) : Type 0 where

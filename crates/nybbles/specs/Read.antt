@@ -6,10 +6,8 @@ use mathlib.Core.List.{List, [], _∷_}
 use lib.Dec.{ltb, leb, eqb}
 use lib.ListN.{length}
 use Rattle.refusals.specs.Refusals.{endsEarly, badGap, pastLastMonth, tooManyLeaps, afterEnd}
-use Rattle.schedule.specs.declared.Schedule.{Schedule}
-use Rattle.schedule.specs.declared.Reading.{Reading}
-use Rattle.schedule.specs.Schedule.{maxLeaps, maxGap, lastMonth, monthStart, blankSchedule}
-use Rattle.schedule.specs.Answers.{refusal, accepted, withLeap}
+use Rattle.schedule.specs.Schedule.{Schedule, maxLeaps, maxGap, lastMonth, monthStart, blankSchedule}
+use Rattle.schedule.specs.Answers.{Reading, refusal, accepted, withLeap}
 use Rattle.nybbles.specs.declared.code.Mark.{Mark}
 use Rattle.nybbles.specs.declared.code.Mark.the-variants.{Continues, Leaps, Expires}
 use Rattle.nybbles.specs.declared.code.Code.{Code}
@@ -42,7 +40,7 @@ unfoldable pub fault : State → Code → ℕ
 fault st c =
     require (leb (st .gap + c .months) maxGap) badGap
     (require (leb (st .total + c .months) lastMonth) pastLastMonth
-    (require (hasRoom (c .mark) (st .schedule .count)) tooManyLeaps 0))
+    (require (hasRoom (c .mark) (length (st .schedule .leaps))) tooManyLeaps 0))
 
 -- what a mark at a month makes of the state: a leap ends the gap so far
 abbrev pub marked : Mark → ℕ → ℕ → Schedule → State

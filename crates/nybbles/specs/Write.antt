@@ -7,9 +7,7 @@ use lib.Dec.{ltb, leb, eqb}
 use lib.ListN.{length}
 use Rattle.schedule.specs.declared.Sign.{Sign}
 use Rattle.schedule.specs.declared.Sign.the-variants.{Positive, Negative}
-use Rattle.schedule.specs.declared.Leap.{Leap}
-use Rattle.schedule.specs.declared.Schedule.{Schedule}
-use Rattle.schedule.specs.Schedule.{leapsOf, expiryMonth}
+use Rattle.schedule.specs.Schedule.{Leap, Schedule, expiryMonth}
 use Rattle.nybbles.specs.Codes.{npNone, npPositive, npNegative, npExpiry, inSixes, inMonths}
 
 -- NP of a leap
@@ -83,7 +81,7 @@ pack (a ∷ b ∷ ns) = (a * 16 + b) ∷ pack ns
 
 -- the codes of a schedule, before they are evened
 abbrev pub plainCodes : Schedule → List (List ℕ)
-plainCodes s = codesFrom 0 (leapsOf s) (expiryMonth s)
+plainCodes s = codesFrom 0 (s .leaps) (expiryMonth s)
 
 -- the codes of a schedule
 unfoldable pub spelling : Schedule → List (List ℕ)

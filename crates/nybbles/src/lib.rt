@@ -1,23 +1,22 @@
 // The nybble list: its reader and its writer.
 use crate::progress::Progress;
-use schedule::Reading;
-use schedule::Schedule;
 use schedule::Writing;
 
 mod code; // code.rt: the codes of a list
 mod pack; // pack.rt: written codes as bytes
 mod progress; // progress.rt: what is read so far, and what a code makes of it
-mod spell; // spell.rt: the written codes of a schedule
+mod spell; // spell.rt: the written codes of a list
 
 ghost use mathlib.Core.Path.{_≡_};
 ghost use lib.ListN.{length};
+ghost use Rattle.schedule.specs.WordLayout.{meant};
 ghost use Rattle.schedule.specs.Answers.{writing, written, HandsReading};
 ghost use Rattle.nybbles.specs.Read.{readNybbles};
 ghost use Rattle.nybbles.specs.Write.{nybblesOf};
 
 // Reads a nybble list into the words of its schedule; any bytes may be given. One pass, code by code: each code that passes has a month at
 // least, so a list of any length is decided by its 2,401st code.
-pub fn read_words(bytes: &[u8], out: &mut [u32; 514], place: &mut u64) -> u8
+pub fn read_nybbles(bytes: &[u8], out: &mut [u32; 514], place: &mut u64) -> u8
     ensures { λ n. ⌜ HandsReading (readNybbles (now (bytes .entry))) n (now (out .exit)) (now (place .exit)) ⌝ }
 {
     *out = [0u32; 514];
@@ -49,46 +48,23 @@ pub fn read_words(bytes: &[u8], out: &mut [u32; 514], place: &mut u64) -> u8
     schedule::hand_refusal(refusals::ENDS_EARLY, at, out, place)
 }
 
-// Reads a nybble list; any bytes may be given.
-pub fn read_nybbles(bytes: &[u8]) -> Reading
-    ensures { λ r. ⌜ r ≡ readNybbles (now (bytes .entry)) ⌝ }
+// Writes the nybble list of a list's words, in its one spelling; any words and any output may be given.
+pub fn write_nybbles(words: &[u32; 514], out: &mut [u8]) -> Writing
+    ensures { λ r. ⌜ (r ≡ writing (meant (now (words .entry))) (nybblesOf (meant (now (words .entry)))) (length (now (out .entry)))) × (now (out .exit) ≡ written (meant (now (words .entry))) (nybblesOf (meant (now (words .entry)))) (now (out .entry))) ⌝ }
 {
-    let mut words = [0u32; 514];
-    let mut place: u64 = 0;
-    let number = read_words(bytes, &mut words, &mut place);
-    Reading {
-        number,
-        place: place as usize,
-        schedule: schedule::of_words(&words),
+    let number = schedule::unwritable(words);
+    if number != 0 {
+        return Writing { number, count: 0 };
     }
-}
-
-// Writes the nybble list of a schedule, in its one spelling; any schedule and any output may be given.
-pub fn write_nybbles(s: Schedule, out: &mut [u8]) -> Writing
-    ensures { λ r. ⌜ (r ≡ writing s (nybblesOf s) (length (now (out .entry)))) × (now (out .exit) ≡ written s (nybblesOf s) (now (out .entry))) ⌝ }
-{
-    if schedule::is_well_formed(s) {
-        if schedule::leaves_gap(s) {
-            let end = schedule::expiry_month(s);
-            let mut codes = [0u8; spell::MAX_CODES];
-            let n = spell::spell(s, end, &mut codes);
-            let count = spell::nybble_count(&codes, n) / 2;
-            if count <= out.len() {
-                pack::put_codes(&codes, n, out);
-                return Writing { number: 0, count };
-            }
-            return Writing {
-                number: refusals::OUTPUT_SHORT,
-                count: 0,
-            };
-        }
+    let mut codes = [0u8; spell::MAX_CODES];
+    let n = spell::spell(words, &mut codes);
+    let count = spell::nybble_count(&codes, n) / 2;
+    if out.len() < count {
         return Writing {
-            number: refusals::NO_GAP,
+            number: refusals::OUTPUT_SHORT,
             count: 0,
         };
     }
-    Writing {
-        number: refusals::NOT_WELL_FORMED,
-        count: 0,
-    }
+    pack::put_codes(&codes, n, out);
+    Writing { number: 0, count }
 }

@@ -5,8 +5,9 @@ use schedule::LAST_MONTH;
 use schedule::MAX_GAP;
 use schedule::MAX_LEAPS;
 ghost use mathlib.Core.Path.{_≡_};
-ghost use Rattle.schedule.specs.declared.Schedule.{Schedule};
-ghost use Rattle.schedule.specs.Inner.{SoFar};
+ghost use lib.ListN.{length};
+ghost use Rattle.schedule.specs.Schedule.{Schedule};
+ghost use Rattle.schedule.specs.Private.{SoFar};
 ghost use Rattle.nybbles.specs.Read.{hasRoom, isExpiry, fault};
 ghost use Rattle.nybbles.specs.Private.{stateOf, Short, Passes, Moves};
 
@@ -42,7 +43,7 @@ pub(crate) fn is_expiry(mark: Mark) -> bool
 // The checks at a code, in their order: a refusal's number, or 0.
 pub(crate) fn fault_of(p: Progress, c: Code) -> u8
     requires { ⌜ Short p c ⌝ }
-    ensures { λ r. ⌜ ((s : Schedule) → s .count ≡ p .count → r ≡ fault (stateOf p s) c) ⌝ }
+    ensures { λ r. ⌜ ((s : Schedule) → length (s .leaps) ≡ p .count → r ≡ fault (stateOf p s) c) ⌝ }
 {
     if MAX_GAP < p.gap + c.months {
         return refusals::BAD_GAP;

@@ -1,4 +1,4 @@
-// The written codes of a schedule, in its one spelling.
+// The written codes of a list, in its one spelling.
 // A written code is held as one number: a single nybble as itself, two nybbles as the byte that they make.
 use crate::code::IN_MONTHS;
 use crate::code::IN_SIXES;
@@ -6,14 +6,14 @@ use crate::code::NP_EXPIRY;
 use crate::code::NP_NEGATIVE;
 use crate::code::NP_NONE;
 use crate::code::NP_POSITIVE;
-use schedule::Schedule;
 use schedule::Sign;
 ghost use mathlib.Core.Path.{_≡_};
 ghost use mathlib.Core.Bool.{true};
 ghost use mathlib.Core.List.{map, flatten};
 ghost use Prim.Native.Nat.{_+_, _≤_, _<_};
 ghost use lib.ListN.{length, take};
-ghost use Rattle.schedule.specs.Schedule.{expiryMonth, leavesGap, wellFormed, maxGap};
+ghost use Rattle.schedule.specs.Schedule.{leavesGap, wellFormed, maxGap};
+ghost use Rattle.schedule.specs.WordLayout.{meant};
 ghost use Rattle.nybbles.specs.Write.{npOf, pair, monthsCode, sixesCode, sixes, gapCodes, plainCodes, padded, spelling};
 ghost use Rattle.nybbles.specs.Private.{maxCodes, codeOf, Stores, Holds};
 
@@ -98,20 +98,20 @@ fn put_gap(codes: &mut Codes, at: usize, np: u8, gap: u32) -> usize
     next + 1
 }
 
-// Writes the codes of a schedule, not evened yet, and returns their number.
-fn put_gaps(s: Schedule, end: u32, codes: &mut Codes) -> usize
-    requires { ⌜ ((wellFormed s ≡ true) × (leavesGap s ≡ true) × (end ≡ expiryMonth s)) × (length (now codes) ≡ maxCodes) ⌝ }
-    ensures { λ r. ⌜ Holds (now (codes .exit)) r (plainCodes s) ⌝ }
+// Writes the codes of a list, not evened yet, and returns their number.
+fn put_gaps(words: &[u32; 514], codes: &mut Codes) -> usize
+    requires { ⌜ ((wellFormed (meant (now words)) ≡ true) × (leavesGap (meant (now words)) ≡ true)) × (length (now codes) ≡ maxCodes) ⌝ }
+    ensures { λ r. ⌜ Holds (now (codes .exit)) r (plainCodes (meant (now (words .entry)))) ⌝ }
 {
-    let count = s.count;
+    let count = schedule::count_of(words);
+    let end = schedule::expiry_month(words);
     let mut at: usize = 0;
     let mut last: u32 = 0;
     let mut i: usize = 0;
     while i < count {
-        let l = s.leaps[i];
-        let month = l.month as u32;
-        let sign = l.sign;
-        at = put_gap(codes, at, np_of(sign), month - last);
+        let month = schedule::month_at(words, i);
+        let np = np_of(schedule::sign_at(words, i));
+        at = put_gap(codes, at, np, month - last);
         last = month;
         i += 1;
     }
@@ -155,12 +155,12 @@ fn pad(codes: &mut Codes, n: usize)
     }
 }
 
-// Writes the codes of a schedule, and returns their number.
-pub(crate) fn spell(s: Schedule, end: u32, codes: &mut Codes) -> usize
-    requires { ⌜ ((wellFormed s ≡ true) × (leavesGap s ≡ true) × (end ≡ expiryMonth s)) × (length (now codes) ≡ maxCodes) ⌝ }
-    ensures { λ r. ⌜ Holds (now (codes .exit)) r (spelling s) ⌝ }
+// Writes the codes of a list, and returns their number.
+pub(crate) fn spell(words: &[u32; 514], codes: &mut Codes) -> usize
+    requires { ⌜ ((wellFormed (meant (now words)) ≡ true) × (leavesGap (meant (now words)) ≡ true)) × (length (now codes) ≡ maxCodes) ⌝ }
+    ensures { λ r. ⌜ Holds (now (codes .exit)) r (spelling (meant (now (words .entry)))) ⌝ }
 {
-    let n = put_gaps(s, end, codes);
+    let n = put_gaps(words, codes);
     if nybble_count(codes, n) % 2 == 0 {
         return n;
     }

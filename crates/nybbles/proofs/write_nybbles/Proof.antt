@@ -1,5 +1,4 @@
--- `write_nybbles` meets its contract: one answer for a list that fits, one for a short output, one for a schedule that can't be rounded down, one for a
--- schedule that is not well formed.
+-- `write_nybbles` meets its contract: one answer for a list that can't be written, one for a short output, one for a list that fits.
 -- Assumes nothing.
 use mathlib.Core.Path.{refl, sym, _∙_}
 use borrow.Author.Needs.{needs}
@@ -8,36 +7,56 @@ use Rattle.nybbles.proofs.Packed as packed
 use Rattle.nybbles.proofs.write_nybbles.Statement.{statement}
 use Rattle.nybbles.proofs.write_nybbles.Tie as tie
 
-put-codes-requires : tie.Need-put-codes-requires
-put-codes-requires c κs =
-    let spelt = c .before .before .before .before .before .spell .ensures in
-    ((spelt .few, spelt .full), packed.bytes-fit _ _ _ spelt _ (c .before .before .before .nybble-count .ensures) _ (c .before .before .if3 .taken))
-
 returns : tie.Need-returns
 returns c =
-    let spelt = c .before .before .before .before .before .before .before .before .spell .ensures in
-    let formed = (sym (c .before .before .before .before .before .before .before .before .before .before .before .before .before .before .is-well-formed .ensures) ∙ c .before .before .before .before .before .before .before .before .before .before .before .before .before .if1 .taken) in
-    let gap = (sym (c .before .before .before .before .before .before .before .before .before .before .before .before .leaves-gap .ensures) ∙ c .before .before .before .before .before .before .before .before .before .before .before .if2 .taken) in
-    answers.taken _ _ _ formed gap _ (packed.bytes-counted _ _ _ spelt _ (c .before .before .before .before .before .before .nybble-count .ensures)) (c .before .before .before .before .before .if3 .taken) _
-    (packed.bytes-put _ _ _ spelt _ _ (c .before .before .put-codes .ensures))
+    let unwritable = c .before .unwritable in
+    let if1 = c .if1 in
+    rw (unwritable .ensures) (answers.refused _ _ _ (λ e. if1 .taken (unwritable .ensures ∙ e)))
+
+spell-requires : tie.Need-spell-requires
+spell-requires c κs =
+    let unwritable = c .before .before .unwritable in
+    let if1 = c .before .if1 in
+    (answers.writable _ (sym (unwritable .ensures) ∙ if1 .left), refl)
 
 returns-2 : tie.Need-returns-2
 returns-2 c =
-    let spelt = c .before .before .before .spell .ensures in
-    answers.short _ _ _ (sym (c .before .before .before .before .before .before .before .before .before .is-well-formed .ensures) ∙ c .before .before .before .before .before .before .before .before .if1 .taken) (sym (c .before .before .before .before .before .before .before .leaves-gap .ensures) ∙ c .before .before .before .before .before .before .if2 .taken) _ (packed.bytes-counted _ _ _ spelt _ (c .before .nybble-count .ensures)) (c .if3 .left)
+    let unwritable = c .before .before .before .before .before .before .unwritable in
+    let if1 = c .before .before .before .before .before .if1 in
+    let spell = c .before .before .before .spell in
+    let nybble-count = c .before .nybble-count in
+    let if2 = c .if2 in
+    let can = answers.writable _ (sym (unwritable .ensures) ∙ if1 .left) in
+    answers.short _ _ _ (can .0) (can .1) _ (packed.bytes-counted _ _ _ (spell .ensures) _ (nybble-count .ensures)) (if2 .taken)
+
+put-codes-requires : tie.Need-put-codes-requires
+put-codes-requires c κs =
+    let spell = c .before .before .before .before .before .spell in
+    let nybble-count = c .before .before .before .nybble-count in
+    let if2 = c .before .before .if2 in
+    ((spell .ensures .few, spell .ensures .full), packed.bytes-fit _ _ _ (spell .ensures) _ (nybble-count .ensures) _ (if2 .left))
+
+returns-3 : tie.Need-returns-3
+returns-3 c =
+    let unwritable = c .before .before .before .before .before .before .before .before .before .before .before .unwritable in
+    let if1 = c .before .before .before .before .before .before .before .before .before .before .if1 in
+    let spell = c .before .before .before .before .before .before .before .before .spell in
+    let nybble-count = c .before .before .before .before .before .before .nybble-count in
+    let if2 = c .before .before .before .before .before .if2 in
+    let put-codes = c .before .before .put-codes in
+    let can = answers.writable _ (sym (unwritable .ensures) ∙ if1 .left) in
+    answers.taken _ _ _ (can .0) (can .1) _ (packed.bytes-counted _ _ _ (spell .ensures) _ (nybble-count .ensures)) (if2 .left) _
+    (packed.bytes-put _ _ _ (spell .ensures) _ _ (put-codes .ensures))
 
 pub write-nybbles-spec : {M : Type 1} → statement M
 write-nybbles-spec =
     tie.close
     (tie.spec
     (λ c κs. search needs)
+    returns
+    spell-requires
     (λ c κs. search needs)
-    (λ c κs. search needs)
-    (λ c κs. (((sym (c .before .before .before .before .before .is-well-formed .ensures) ∙ c .before .before .before .before .if1 .taken), (sym (c .before .before .before .leaves-gap .ensures) ∙ c .before .before .if2 .taken), c .before .expiry-month .ensures), refl))
-    (λ c κs. search needs)
+    returns-2
     put-codes-requires
     (λ c. search needs)
-    returns
-    returns-2
-    (λ c. answers.no-gap _ _ _ (sym (c .before .before .before .is-well-formed .ensures) ∙ c .before .before .if1 .taken) (sym (c .before .leaves-gap .ensures) ∙ c .if2 .left))
-    (λ c. answers.wrong _ _ _ (sym (c .before .is-well-formed .ensures) ∙ c .if1 .left)))
+    returns-3)

@@ -31,7 +31,7 @@ after-code-spec =
     (λ c. let inside = room (c .before) in omega arith)
     (λ c. let inside = room (c .before) in omega arith)
     (λ c. search needs)
-    (λ c s kept. record { state = simp (c .enum-told .given .1); kept = simp (c .enum-told .given .1) kept; few = λ h. h })
+    (λ c s kept. record { state = simp (c .enum-told .given .1); kept = simp (c .enum-told .given .1) kept })
     (λ c s kept. let start = c .before .before .before .before .before .before .before .before in
     reading.leap-after _ _ _ _ _ (c .before .before .mark .given .1) (reading.leap-room _ _ _ (c .before .before .mark .given .1) (start .pre .room)) (c .word-of-sign .ensures) s kept)
-    (λ c s kept. record { state = simp (c .enum-told2 .given .1); kept = simp (c .enum-told2 .given .1) kept; few = λ h. h }))
+    (λ c s kept. record { state = simp (c .enum-told2 .given .1); kept = simp (c .enum-told2 .given .1) kept }))

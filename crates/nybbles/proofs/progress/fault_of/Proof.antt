@@ -2,6 +2,7 @@
 use mathlib.Core.Path.{_≡_, sym, _∙_}
 use mathlib.Core.Bool.{true, false}
 use native.Mathlib.Omega.{arith}
+use lib.ListN.{length}
 use borrow.Author.Needs.{needs}
 use Rattle.nybbles.specs.Read.{hasRoom}
 use Rattle.nybbles.specs.Private.{stateOf}
@@ -20,9 +21,9 @@ fault-of-spec =
     (λ c κs. search needs)
     (λ c s e. let over = c .before .before in
     let args = over .before .before .before .before .before .before .args in
-    let room : hasRoom (args .c .mark) (s .count) ≡ true = rw e (sym (c .before .has-room .ensures) ∙ c .if3 .taken) in
+    let room : hasRoom (args .c .mark) (length (s .leaps)) ≡ true = rw e (sym (c .before .has-room .ensures) ∙ c .if3 .taken) in
     reading.no-fault (stateOf (args .p) s) (args .c) (over .before .before .before .if1 .left) (over .if2 .left) room)
     (λ c s e. let over = c .before .before in
     let args = over .before .before .before .before .before .before .args in
-    let full : hasRoom (args .c .mark) (s .count) ≡ false = rw e (sym (c .before .has-room .ensures) ∙ c .if3 .left) in
+    let full : hasRoom (args .c .mark) (length (s .leaps)) ≡ false = rw e (sym (c .before .has-room .ensures) ∙ c .if3 .left) in
     reading.room-fault (stateOf (args .p) s) (args .c) (over .before .before .before .if1 .left) (over .if2 .left) full))
