@@ -7,21 +7,17 @@ use Prim.Native.Nat.{ℕ, _+_, _*_, _-_, _/_, _%_, _≤_, _<_}
 use native.Mathlib.Nat.{add-sub-cancel-left, mod-lt, div-add-mod', div-div-eq-div-mul}
 use native.Mathlib.Omega.{arith}
 use lib.Dec.{ltb}
-use lib.ListN.{length}
-use lib.Seq.{length-take-le}
+use lib.ListN.{length, length-append}
 use borrow.Author.Tests.{ltb-true, ltb-false, lt-ltb, le-leb, ne-eqb}
 use Rattle.schedule.specs.declared.Sign.{Sign}
 use Rattle.schedule.specs.declared.Sign.the-variants.{Positive, Negative}
-use Rattle.schedule.specs.declared.Leap.{Leap}
-use Rattle.schedule.specs.declared.Schedule.{Schedule}
-use Rattle.schedule.specs.declared.Reading.{Reading}
-use Rattle.schedule.specs.Schedule.{monthStart, blankSchedule, leapsOf, expiryMonth, roundedDown, leavesGap, wellFormed}
+use Rattle.schedule.specs.Schedule.{Leap, Schedule, monthStart, blankSchedule, expiryMonth, roundedDown, leavesGap, wellFormed}
 use Rattle.calendar.specs.Calendar.{startsMonth}
 use Rattle.calendar.proofs.Laws.{month-most}
-use Rattle.schedule.specs.Answers.{accepted, withLeap}
+use Rattle.schedule.specs.Answers.{Reading, accepted, withLeap}
 use Rattle.schedule.proofs.Cases.{by-bool}
 use Rattle.schedule.proofs.Gaps.{fits-lt, fits-le, parts}
-use Rattle.schedule.proofs.Rounded.{gapsTo, first-to, later-to, before-to, rounded-gaps, rounded-well, rounds-itself, first-leaves-gap}
+use Rattle.schedule.proofs.Rounded.{gapsTo, first-to, later-to, before-to, rounded-gaps, rounds-itself, first-leaves-gap}
 use Rattle.schedule.proofs.Adds.{adds, made-again}
 use Rattle.text.proofs.Sound.{accepted-first}
 use Rattle.text.specs.Bytes.{zeroByte, nineByte, endByte, isDigit, digitOf, signByte}
@@ -60,17 +56,17 @@ gap-back g p t s rest some fits =
     ∙ digit (g % 10) (g / 10) (p + 2) t s rest g (p + 3) ten (omega arith) low some fits))))
 
 -- a sign after a gap, and the mark of the expiry
-leap-back : (g p t m : ℕ) (s : Schedule) (k : Sign) (rest : List ℕ) → 0 < g → t + g ≡ m → m ≤ 2400 → s .count < 256
+leap-back : (g p t m : ℕ) (s : Schedule) (k : Sign) (rest : List ℕ) → 0 < g → t + g ≡ m → m ≤ 2400 → length (s .leaps) < 256
     → readFrom g p t s (signByte k ∷ rest) ≡ readFrom 0 (p + 1) m (withLeap s m k) rest
 unfolding readFrom
-leap-back g p t m s Positive rest some e h room = simp (ne-eqb g 0 (λ z. omega arith), e, le-leb m 2400 h, lt-ltb (s .count) 256 room)
-leap-back g p t m s Negative rest some e h room = simp (ne-eqb g 0 (λ z. omega arith), e, le-leb m 2400 h, lt-ltb (s .count) 256 room)
+leap-back g p t m s Positive rest some e h room = simp (ne-eqb g 0 (λ z. omega arith), e, le-leb m 2400 h, lt-ltb (length (s .leaps)) 256 room)
+leap-back g p t m s Negative rest some e h room = simp (ne-eqb g 0 (λ z. omega arith), e, le-leb m 2400 h, lt-ltb (length (s .leaps)) 256 room)
 
 end-back : (g p t m : ℕ) (s : Schedule) → 0 < g → t + g ≡ m → m ≤ 2400 → readFrom g p t s (63 ∷ []) ≡ accepted s (monthStart m)
 unfolding readFrom
 end-back g p t m s some e h = simp (ne-eqb g 0 (λ z. omega arith), e, le-leb m 2400 h)
 
-list-back : (ls : List Leap) (from p expiry : ℕ) (s : Schedule) → gapsTo from ls expiry ≡ true → expiry ≤ 2400 → s .count + length ls ≤ 256
+list-back : (ls : List Leap) (from p expiry : ℕ) (s : Schedule) → gapsTo from ls expiry ≡ true → expiry ≤ 2400 → length (s .leaps) + length ls ≤ 256
     → readFrom 0 p from s (textFrom from ls expiry) ≡ accepted (adds s ls) (monthStart expiry)
 unfolding textFrom gapsTo adds
 list-back [] from p expiry s f h room =
@@ -84,19 +80,18 @@ list-back (l ∷ ls) from p expiry s f h room =
     let c : l .month < expiry = before-to ls (l .month) expiry (later-to from l ls expiry f) in
     rw append-assoc (gap-back (l .month - from) p from s (signByte (l .sign) ∷ textFrom (l .month) ls expiry) (omega arith) b
     ∙ (leap-back (l .month - from) _ from (l .month) s (l .sign) (textFrom (l .month) ls expiry) (omega arith) (omega arith) (omega arith) (omega arith)
-    ∙ list-back ls (l .month) _ expiry (withLeap s (l .month) (l .sign)) (later-to from l ls expiry f) h (omega arith)))
+    ∙ list-back ls (l .month) _ expiry (withLeap s (l .month) (l .sign)) (later-to from l ls expiry f) h
+    (omega (arith, length-append (s .leaps) (record { month = l .month; sign = l .sign } ∷ [])))))
 
--- the text of a well-formed schedule (with 256 places, as every schedule of the code has) reads back as the schedule rounded down
-pub reads-back-rounded : (s : Schedule) → length (s .leaps) ≡ 256 → wellFormed s ≡ true → leavesGap s ≡ true → readText (textOf s) ≡ record { number = 0; place = 0; schedule = roundedDown s }
+-- the text of a well-formed schedule reads back as the schedule rounded down
+pub reads-back-rounded : (s : Schedule) → wellFormed s ≡ true → leavesGap s ≡ true → readText (textOf s) ≡ record { number = 0; place = 0; schedule = roundedDown s }
 unfolding readText textOf
-reads-back-rounded s full w g =
-    let p = parts s w in
-    let len : length (leapsOf s) ≡ s .count = length-take-le (s .count) (s .leaps) (omega (arith, p .room)) in
-    list-back (leapsOf s) 0 0 (expiryMonth s) blankSchedule (rounded-gaps s w g) (month-most (s .expiry)) (omega (arith, p .room)) ∙ made-again (roundedDown s) full (rounded-well s w g)
+reads-back-rounded s w g =
+    list-back (s .leaps) 0 0 (expiryMonth s) blankSchedule (rounded-gaps s w g) (month-most (s .expiry)) (omega (arith, parts s w .room)) ∙ made-again (roundedDown s)
 
 -- so every one that expires on the first of a month reads back as itself
-pub reads-back : (s : Schedule) → length (s .leaps) ≡ 256 → wellFormed s ≡ true → startsMonth (s .expiry) ≡ true → readText (textOf s) ≡ record { number = 0; place = 0; schedule = s }
-reads-back s full w m = reads-back-rounded s full w (first-leaves-gap s w m) ∙ ap (λ (t : Schedule). record { number = 0; place = 0; schedule = t }) (rounds-itself s m)
+pub reads-back : (s : Schedule) → wellFormed s ≡ true → startsMonth (s .expiry) ≡ true → readText (textOf s) ≡ record { number = 0; place = 0; schedule = s }
+reads-back s w m = reads-back-rounded s w (first-leaves-gap s w m) ∙ ap (λ (t : Schedule). record { number = 0; place = 0; schedule = t }) (rounds-itself s m)
 
 -- and no other does
 pub only-first : (s : Schedule) → readText (textOf s) ≡ record { number = 0; place = 0; schedule = s } → startsMonth (s .expiry) ≡ true

@@ -1,8 +1,8 @@
 -- What holds of every answer that a mark chooses from holds of the answer chosen.
 -- Assumes nothing.
 use mathlib.Core.Path.{_≡_, refl}
+use Rattle.schedule.specs.Answers.{Reading}
 use Rattle.schedule.specs.declared.Sign.{Sign}
-use Rattle.schedule.specs.declared.Reading.{Reading}
 use Rattle.text.specs.declared.Mark.{Mark}
 use Rattle.text.specs.declared.Mark.the-variants.{Leaps, Expires, Neither}
 use Rattle.text.specs.Read.{byMark}

@@ -14,9 +14,8 @@ use lib.Dec.{eqb}
 use borrow.Author.Tests.{lt-ltb, le-ltb, le-leb, lt-leb, eq-eqb, ne-eqb}
 use types.Run.{OneOf}
 use denote.Enum.Declared.{tagOf}
+use Rattle.schedule.specs.Schedule.{Schedule}
 use Rattle.text.proofs.Gap as gap
-use Rattle.schedule.specs.declared.Schedule.{Schedule}
-use Rattle.schedule.specs.declared.Reading.{Reading}
 use Rattle.text.specs.declared.Cursor.{Cursor}
 use Rattle.text.specs.declared.Gap.{Gap}
 use Rattle.text.specs.declared.Gap.the-variants.{Months, Ended, Misplaced, Malformed}
@@ -27,12 +26,12 @@ use Rattle.schedule.specs.declared.Sign.{Sign}
 use Rattle.schedule.specs.WordLayout.{wordOfSign}
 use Rattle.calendar.specs.Calendar.{monthStart}
 use Rattle.calendar.proofs.Laws.{start-min}
-use Rattle.schedule.specs.Inner.{SoFar}
-use Rattle.schedule.specs.Answers.{refusal, accepted, withLeap, HandsReading}
+use Rattle.schedule.specs.Private.{SoFar}
+use Rattle.schedule.specs.Answers.{Reading, refusal, accepted, withLeap, HandsReading}
 use Rattle.schedule.proofs.SoFar.{so-far-leap, so-far-end}
 use Rattle.text.specs.Bytes.{isDigit, digitOf, markOf}
-use Rattle.text.specs.Read.{mayFollow, readFrom}
-use Rattle.text.specs.Inner.{stopped, Ends, Due, Scanned}
+use Rattle.text.specs.Read.{stopped, mayFollow, readFrom}
+use Rattle.text.specs.Private.{Ends, Due, Scanned}
 
 module _ (bytes : List ℕ) (p : ℕ) where
   pub uncons : p < length bytes → drop p bytes ≡ getD bytes p 0 ∷ drop (p + 1) bytes
@@ -96,13 +95,13 @@ module _ (bytes : List ℕ) (g p t : ℕ) (s : Schedule) where
       unfolding readFrom
       leap-late l = rw (uncons bytes p h) (simp (due .no-digit h, nonzero, m, lt-leb (t + g) 2400 l))
 
-      pub leap-full : t + g ≤ 2400 → 256 ≤ s .count → readFrom g p t s (drop p bytes) ≡ refusal 5 p
+      pub leap-full : t + g ≤ 2400 → 256 ≤ length (s .leaps) → readFrom g p t s (drop p bytes) ≡ refusal 5 p
       unfolding readFrom
-      leap-full l f = rw (uncons bytes p h) (simp (due .no-digit h, nonzero, m, le-leb (t + g) 2400 l, le-ltb (s .count) 256 f))
+      leap-full l f = rw (uncons bytes p h) (simp (due .no-digit h, nonzero, m, le-leb (t + g) 2400 l, le-ltb (length (s .leaps)) 256 f))
 
-      leaps : t + g ≤ 2400 → s .count < 256 → readFrom g p t s (drop p bytes) ≡ readFrom 0 (p + 1) (t + g) (withLeap s (t + g) k) (drop (p + 1) bytes)
+      leaps : t + g ≤ 2400 → length (s .leaps) < 256 → readFrom g p t s (drop p bytes) ≡ readFrom 0 (p + 1) (t + g) (withLeap s (t + g) k) (drop (p + 1) bytes)
       unfolding readFrom
-      leaps l f = rw (uncons bytes p h) (simp (due .no-digit h, nonzero, m, le-leb (t + g) 2400 l, lt-ltb (s .count) 256 f))
+      leaps l f = rw (uncons bytes p h) (simp (due .no-digit h, nonzero, m, le-leb (t + g) 2400 l, lt-ltb (length (s .leaps)) 256 f))
 
       -- a leap is stored in its place, and the reading goes on
       pub keeps : t + g ≤ 2400 → (n : ℕ) (words : List ℕ) → n < 256 → SoFar s n words → (w : ℕ) → w ≡ wordOfSign k → (r : End) (words′ : List ℕ)

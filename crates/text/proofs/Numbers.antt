@@ -4,10 +4,9 @@ use mathlib.Core.List.{List, [], _∷_}
 use Prim.Native.Nat.{ℕ, _+_, _*_, _≤_}
 use native.Mathlib.Omega.{arith}
 use lib.Dec.{ltb, leb, eqb}
-use Rattle.schedule.specs.declared.Schedule.{Schedule}
-use Rattle.schedule.specs.declared.Reading.{Reading}
-use Rattle.schedule.specs.Schedule.{monthStart, blankSchedule}
-use Rattle.schedule.specs.Answers.{withLeap}
+use lib.ListN.{length}
+use Rattle.schedule.specs.Schedule.{Schedule, monthStart, blankSchedule}
+use Rattle.schedule.specs.Answers.{Reading, withLeap}
 use Rattle.schedule.proofs.Cases.{by-cond}
 use Rattle.text.specs.Bytes.{isDigit, digitOf, markOf}
 use Rattle.text.specs.Read.{mayFollow, atEnd, readFrom, readText}
@@ -32,7 +31,7 @@ small (b ∷ bs) gap place total s =
     (λ _. by-cond Small (leb (total + gap) 2400) (λ _. at-end bs (place + 1) s (monthStart (total + gap))) (λ _. omega arith))
     (λ k _.
     by-cond Small (leb (total + gap) 2400)
-    (λ _. by-cond Small (ltb (s .count) 256) (λ _. small bs 0 (place + 1) (total + gap) (withLeap s (total + gap) k)) (λ _. omega arith))
+    (λ _. by-cond Small (ltb (length (s .leaps)) 256) (λ _. small bs 0 (place + 1) (total + gap) (withLeap s (total + gap) k)) (λ _. omega arith))
     (λ _. omega arith))))
 
 -- a text is refused with one of 1 to 6

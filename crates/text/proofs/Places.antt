@@ -7,10 +7,8 @@ use native.Mathlib.Omega.{arith}
 use lib.Dec.{ltb, leb, eqb}
 use lib.ListN.{length}
 use Rattle.refusals.specs.Refusals.{endsEarly}
-use Rattle.schedule.specs.declared.Schedule.{Schedule}
-use Rattle.schedule.specs.declared.Reading.{Reading}
-use Rattle.schedule.specs.Schedule.{monthStart, blankSchedule}
-use Rattle.schedule.specs.Answers.{refusal, withLeap}
+use Rattle.schedule.specs.Schedule.{Schedule, monthStart, blankSchedule}
+use Rattle.schedule.specs.Answers.{Reading, refusal, withLeap}
 use Rattle.schedule.proofs.Cases.{by-cond}
 use Rattle.text.specs.Bytes.{isDigit, digitOf, markOf}
 use Rattle.text.specs.Read.{mayFollow, atEnd, readFrom, readText}
@@ -39,7 +37,7 @@ early (b ∷ bs) gap place total s end e =
     (other 2 place (omega arith))
     (λ _. by-cond (AtEnd end) (leb (total + gap) 2400) (λ _. after-mark bs (place + 1) (monthStart (total + gap)) s) (λ _. other 4 place (omega arith)))
     (λ k _. by-cond (AtEnd end) (leb (total + gap) 2400)
-    (λ _. by-cond (AtEnd end) (ltb (s .count) 256)
+    (λ _. by-cond (AtEnd end) (ltb (length (s .leaps)) 256)
     (λ _. early bs 0 (place + 1) (total + gap) (withLeap s (total + gap) k) end (omega arith))
     (λ _. other 5 place (omega arith)))
     (λ _. other 4 place (omega arith)))))

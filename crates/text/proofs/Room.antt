@@ -4,10 +4,8 @@ use mathlib.Core.Bool.{true}
 use mathlib.Core.List.{List, [], _∷_}
 use Prim.Native.Nat.{ℕ, _+_, _*_, _-_, _≤_}
 use native.Mathlib.Omega.{arith}
-use lib.ListN.{length, length-append, length-take}
-use Rattle.schedule.specs.declared.Leap.{Leap}
-use Rattle.schedule.specs.declared.Schedule.{Schedule}
-use Rattle.schedule.specs.Schedule.{leapsOf, expiryMonth, wellFormed}
+use lib.ListN.{length, length-append}
+use Rattle.schedule.specs.Schedule.{Leap, Schedule, expiryMonth, wellFormed}
 use Rattle.schedule.proofs.Gaps.{parts}
 use Rattle.text.specs.Write.{textFrom, textOf}
 use Rattle.text.proofs.Digits.{few}
@@ -25,6 +23,5 @@ from-short (l ∷ ls) from expiry =
 pub at-most : (s : Schedule) → wellFormed s ≡ true → length (textOf s) ≤ 1028
 unfolding textOf
 at-most s w =
-    let l = length-take (s .count) (s .leaps) in
-    let i = from-short (leapsOf s) 0 (expiryMonth s) in
+    let i = from-short (s .leaps) 0 (expiryMonth s) in
     omega (arith, parts s w .room)

@@ -7,9 +7,9 @@ use Prim.Native.Nat.{ℕ, _+_, _*_, _≤_, _<_}
 use native.Mathlib.Nat.{pos-of-ne-zero}
 use native.Mathlib.Omega.{arith}
 use lib.Dec.{ltb, leb, eqb}
+use lib.ListN.{length}
 use borrow.Author.Tests.{ltb-true, leb-true, eqb-false}
-use Rattle.schedule.specs.declared.Schedule.{Schedule}
-use Rattle.schedule.specs.Schedule.{monthStart, blankSchedule, leavesGap, wellFormed}
+use Rattle.schedule.specs.Schedule.{Schedule, monthStart, blankSchedule, leavesGap, wellFormed}
 use Rattle.calendar.specs.Calendar.{startsMonth}
 use Rattle.schedule.proofs.Rounded.{first-leaves-gap}
 use Rattle.schedule.specs.Answers.{withLeap}
@@ -39,7 +39,7 @@ sound (b ∷ bs) gap place total s q d =
     (never 2 place (omega arith))
     (λ _. by-cond Formed (leb (total + gap) 2400) (λ h. sound-mark bs (place + 1) total gap s p q (leb-true _ _ h) d) (λ _. never 4 place (omega arith)))
     (λ k _. by-cond Formed (leb (total + gap) 2400)
-    (λ h. by-cond Formed (ltb (s .count) 256)
+    (λ h. by-cond Formed (ltb (length (s .leaps)) 256)
     (λ f. sound bs 0 (place + 1) (total + gap) (withLeap s (total + gap) k) (omega arith) (sound-leap total gap s k p q (ltb-true _ _ f) d))
     (λ _. never 5 place (omega arith)))
     (λ _. never 4 place (omega arith)))))

@@ -6,20 +6,16 @@ use mathlib.Core.List.{List, [], _∷_, _++_, append-assoc, append-nil}
 use Prim.Native.Nat.{ℕ, _+_, _*_, _-_, _/_, _%_, _≤_, _<_}
 use native.Mathlib.Nat.{add-sub-cancel-left, pos-of-ne-zero}
 use native.Mathlib.Omega.{arith}
-use lib.ListN.{length, length-set}
+use lib.ListN.{length}
 use lib.Dec.{ltb, leb, eqb}
 use borrow.Author.Tests.{ltb-true, ltb-false, leb-true, eqb-true, eqb-false, ne-eqb}
 use Rattle.schedule.specs.declared.Sign.{Sign}
 use Rattle.schedule.specs.declared.Sign.the-variants.{Positive, Negative}
-use Rattle.schedule.specs.declared.Leap.{Leap}
-use Rattle.schedule.specs.declared.Schedule.{Schedule}
-use Rattle.schedule.specs.declared.Reading.{Reading}
 use Rattle.text.specs.declared.Mark.the-variants.{Leaps, Expires, Neither}
-use Rattle.schedule.specs.Schedule.{monthStart, blankSchedule, leapsOf}
+use Rattle.schedule.specs.Schedule.{Leap, Schedule, monthStart, blankSchedule}
 use Rattle.calendar.proofs.Laws.{month-of-start}
-use Rattle.schedule.specs.Answers.{refusal, accepted, withLeap}
+use Rattle.schedule.specs.Answers.{Reading, refusal, accepted, withLeap}
 use Rattle.schedule.proofs.Cases.{by-bool, by-cond}
-use Rattle.schedule.proofs.Sound.{leaps-with}
 use Rattle.text.specs.Bytes.{isDigit, digitOf, markOf, signByte}
 use Rattle.text.specs.Read.{mayFollow, atEnd, readFrom, readText}
 use Rattle.text.specs.Write.{digits, textFrom, textOf}
@@ -71,8 +67,7 @@ more g d h some fits =
 
 -- what holds of the schedule so far: the text of its leaps, whatever leaps and expiry follow, is the bytes read before the gap, and then what follows
 record Spelt (pre : List ℕ) (total : ℕ) (s : Schedule) : Type 0 where
-  full : length (s .leaps) ≡ 256
-  text : (ls : List Leap) (e : ℕ) → textFrom 0 (leapsOf s ++ ls) e ≡ pre ++ textFrom total ls e
+  text : (ls : List Leap) (e : ℕ) → textFrom 0 (s .leaps ++ ls) e ≡ pre ++ textFrom total ls e
 
 -- a reading that is accepted has a schedule whose text is the bytes read
 record Says (whole : List ℕ) (r : Reading) : Type 0 where
@@ -89,21 +84,18 @@ digit-read gap b bs pre i g =
     let byte : 48 + (b - 48) ≡ b = omega arith in
     rw (more gap (b - 48) (omega arith) (g′ .0) (g′ .1), byte) (simp append-assoc)
 
-spelt-leap : (pre : List ℕ) (total gap : ℕ) (s : Schedule) (k : Sign) → s .count < 256 → Spelt pre total s
+spelt-leap : (pre : List ℕ) (total gap : ℕ) (s : Schedule) (k : Sign) → Spelt pre total s
     → Spelt (pre ++ (digits gap ++ (signByte k ∷ []))) (total + gap) (withLeap s (total + gap) k)
 unfolding textFrom
-spelt-leap pre total gap s k h d =
-    let inside : s .count < length (s .leaps) = omega (arith, d .full) in
+spelt-leap pre total gap s k d =
     record {
-      full = length-set (s .leaps) (s .count) _ ∙ d .full;
-      text = λ ls e. rw (leaps-with s inside (total + gap) k)
-          (simp (append-assoc, d .text (record { month = total + gap; sign = k } ∷ ls) e, add-sub-cancel-left total gap));
+      text = λ ls e. (simp (append-assoc, d .text (record { month = total + gap; sign = k } ∷ ls) e, add-sub-cancel-left total gap));
     }
 
 spelt-end : (pre : List ℕ) (total gap : ℕ) (s : Schedule) → Spelt pre total s → total + gap ≤ 2400 → Says (pre ++ (digits gap ++ (63 ∷ []))) (accepted s (monthStart (total + gap)))
 unfolding textFrom textOf
 spelt-end pre total gap s d h =
-    record { says = λ z. ap (textFrom 0 (leapsOf s)) (month-of-start h) ∙ ap (λ (l : List Leap). textFrom 0 l (total + gap)) (sym (append-nil (leapsOf s))) ∙ (d .text [] (total + gap) ∙ rw (add-sub-cancel-left total gap)) }
+    record { says = λ z. ap (textFrom 0 (s .leaps)) (month-of-start h) ∙ ap (λ (l : List Leap). textFrom 0 l (total + gap)) (sym (append-nil (s .leaps))) ∙ (d .text [] (total + gap) ∙ rw (add-sub-cancel-left total gap)) }
 
 spelt-mark : (bs pre whole : List ℕ) (place total gap : ℕ) (s : Schedule) → whole ≡ pre ++ (digits gap ++ (63 ∷ bs)) → Spelt pre total s
     → total + gap ≤ 2400 → Says whole (atEnd place s (monthStart (total + gap)) bs)
@@ -126,14 +118,14 @@ spelt (b ∷ bs) gap place total s pre whole w d =
     (never 2 place (omega arith))
     (λ m. by-cond (Says whole) (leb (total + gap) 2400) (λ h. spelt-mark bs pre whole (place + 1) total gap s (rw (end-byte b m) at w′) d (leb-true _ _ h)) (λ _. never 4 place (omega arith)))
     (λ k m. by-cond (Says whole) (leb (total + gap) 2400)
-    (λ _. by-cond (Says whole) (ltb (s .count) 256)
-    (λ f. spelt bs 0 (place + 1) (total + gap) (withLeap s (total + gap) k) (pre ++ (digits gap ++ (signByte k ∷ []))) whole
-    (w′ ∙ rw (sign-byte b k m) (simp (append-assoc, spelled-none 0 refl))) (spelt-leap pre total gap s k (ltb-true _ _ f) d))
+    (λ _. by-cond (Says whole) (ltb (length (s .leaps)) 256)
+    (λ _. spelt bs 0 (place + 1) (total + gap) (withLeap s (total + gap) k) (pre ++ (digits gap ++ (signByte k ∷ []))) whole
+    (w′ ∙ rw (sign-byte b k m) (simp (append-assoc, spelled-none 0 refl))) (spelt-leap pre total gap s k d))
     (λ _. never 5 place (omega arith)))
     (λ _. never 4 place (omega arith)))))
 
 blank-spelt : Spelt [] 0 blankSchedule
-blank-spelt = record { full = refl; text = λ ls e. refl }
+blank-spelt = record { text = λ ls e. refl }
 
 -- the bytes of an accepted list are the text of its schedule
 pub one-spelling : (bytes : List ℕ) → readText bytes .number ≡ 0 → textOf (readText bytes .schedule) ≡ bytes

@@ -1,4 +1,4 @@
 pub mod Bytes
 pub mod Read
 pub mod Write
-pub mod Inner
+pub mod Private

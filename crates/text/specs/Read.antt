@@ -4,15 +4,26 @@ use Prim.Native.Nat.{ℕ, _+_, _*_}
 use mathlib.Core.Bool.{Bool, true, false, cond, not}
 use mathlib.Core.List.{List, [], _∷_}
 use lib.Dec.{ltb, leb, eqb}
+use lib.ListN.{length}
 use Rattle.refusals.specs.Refusals.{endsEarly, notAllowed, badGap, pastLastMonth, tooManyLeaps, afterEnd}
 use Rattle.schedule.specs.declared.Sign.{Sign}
-use Rattle.schedule.specs.declared.Schedule.{Schedule}
-use Rattle.schedule.specs.declared.Reading.{Reading}
-use Rattle.schedule.specs.Schedule.{blankSchedule, lastMonth, monthStart, maxLeaps}
-use Rattle.schedule.specs.Answers.{refusal, accepted, withLeap}
+use Rattle.schedule.specs.Schedule.{Schedule, blankSchedule, lastMonth, monthStart, maxLeaps}
+use Rattle.schedule.specs.Answers.{Reading, refusal, accepted, withLeap}
+use Rattle.text.specs.declared.Gap.{Gap}
+use Rattle.text.specs.declared.Gap.the-variants.{Months, Ended, Misplaced, Malformed}
+use Rattle.text.specs.declared.End.{End}
+use Rattle.text.specs.declared.End.the-variants.{Refusal}
 use Rattle.text.specs.declared.Mark.{Mark}
 use Rattle.text.specs.declared.Mark.the-variants.{Leaps, Expires, Neither}
 use Rattle.text.specs.Bytes.{zeroByte, isDigit, digitOf, markOf}
+
+-- "a gap is read, or the reading stops there with a number and a place": the number and the place of each case in which none was read; a gap that
+-- is there is no refusal
+abbrev pub stopped : Gap → End
+stopped (Ended c) = Refusal endsEarly (c .at)
+stopped (Misplaced c) = Refusal notAllowed (c .at)
+stopped (Malformed c) = Refusal badGap (c .at)
+stopped (Months g c) = Refusal 0 0
 
 -- whether a digit may stand after the digits of a gap so far (0 where a gap starts): no "0" where a gap starts, and no fourth digit
 abbrev pub mayFollow : ℕ → ℕ → Bool
@@ -41,7 +52,7 @@ readFrom gap place total s (b ∷ bs) =
     (refusal notAllowed place)
     (cond (leb (total + gap) lastMonth) (atEnd (place + 1) s (monthStart (total + gap)) bs) (refusal pastLastMonth place))
     (λ (g : Sign). cond (leb (total + gap) lastMonth)
-    (cond (ltb (s .count) maxLeaps) (readFrom 0 (place + 1) (total + gap) (withLeap s (total + gap) g) bs) (refusal tooManyLeaps place))
+    (cond (ltb (length (s .leaps)) maxLeaps) (readFrom 0 (place + 1) (total + gap) (withLeap s (total + gap) g) bs) (refusal tooManyLeaps place))
     (refusal pastLastMonth place))))
 
 -- what reading a text answers

@@ -4,9 +4,7 @@ use Prim.Native.Nat.{ℕ, _+_, _-_, _/_, _%_}
 use mathlib.Core.Bool.{cond}
 use mathlib.Core.List.{List, [], _∷_, _++_}
 use lib.Dec.{ltb}
-use Rattle.schedule.specs.declared.Leap.{Leap}
-use Rattle.schedule.specs.declared.Schedule.{Schedule}
-use Rattle.schedule.specs.Schedule.{leapsOf, expiryMonth}
+use Rattle.schedule.specs.Schedule.{Leap, Schedule, expiryMonth}
 use Rattle.text.specs.Bytes.{zeroByte, signByte, endByte}
 
 -- a gap of 1 to 999 in decimal with no leading zero
@@ -26,4 +24,4 @@ textFrom from (l ∷ ls) end = marked (l .month - from) (signByte (l .sign)) ++ 
 
 -- the text of a schedule, whose expiry is rounded down to its month
 unfoldable pub textOf : Schedule → List ℕ
-textOf s = textFrom 0 (leapsOf s) (expiryMonth s)
+textOf s = textFrom 0 (s .leaps) (expiryMonth s)

@@ -1,21 +1,18 @@
 // The reader and the writer of the compact text list.
-use schedule::Reading;
-use schedule::Schedule;
 use schedule::Sign;
 use schedule::Writing;
 ghost use mathlib.Core.Path.{_≡_};
-ghost use mathlib.Core.Bool.{true};
 ghost use Prim.Native.Nat.{_+_, _≤_};
 ghost use lib.ListN.{length, drop};
 ghost use lib.Seq.{sets};
-ghost use Rattle.schedule.specs.Schedule.{expiryMonth, leavesGap, wellFormed};
-ghost use Rattle.schedule.specs.declared.Schedule.{Schedule};
-ghost use Rattle.schedule.specs.Inner.{SoFar};
-ghost use Rattle.schedule.specs.Answers.{writing, written, HandsReading};
+ghost use Rattle.schedule.specs.Schedule.{Schedule, expiryMonth};
+ghost use Rattle.schedule.specs.WordLayout.{meant};
+ghost use Rattle.schedule.specs.Private.{SoFar};
+ghost use Rattle.schedule.specs.Answers.{unwritable, writing, written, HandsReading};
 ghost use Rattle.text.specs.Bytes.{isDigit, markOf, signByte};
-ghost use Rattle.text.specs.Read.{readFrom, readText};
+ghost use Rattle.text.specs.Read.{stopped, readFrom, readText};
 ghost use Rattle.text.specs.Write.{digits, marked, textOf};
-ghost use Rattle.text.specs.Inner.{stopped, Ends, Scanned, Due};
+ghost use Rattle.text.specs.Private.{Ends, Scanned, Due};
 
 struct Cursor {
     pub at: usize,
@@ -166,7 +163,7 @@ fn read_mark(
 }
 
 // Reads a compact text list into the words of its schedule; any bytes may be given.
-pub fn read_words(bytes: &[u8], out: &mut [u32; 514], place: &mut u64) -> u8
+pub fn read_text(bytes: &[u8], out: &mut [u32; 514], place: &mut u64) -> u8
     ensures { λ n. ⌜ HandsReading (readText (now (bytes .entry))) n (now (out .exit)) (now (place .exit)) ⌝ }
 {
     *out = [0u32; 514];
@@ -177,20 +174,6 @@ pub fn read_words(bytes: &[u8], out: &mut [u32; 514], place: &mut u64) -> u8
             0
         }
         End::Refusal(number, at) => schedule::hand_refusal(number, at, out, place),
-    }
-}
-
-// Reads a compact text list; any bytes may be given.
-pub fn read_text(bytes: &[u8]) -> Reading
-    ensures { λ r. ⌜ r ≡ readText (now (bytes .entry)) ⌝ }
-{
-    let mut words = [0u32; 514];
-    let mut place: u64 = 0;
-    let number = read_words(bytes, &mut words, &mut place);
-    Reading {
-        number,
-        place: place as usize,
-        schedule: schedule::of_words(&words),
     }
 }
 
@@ -246,17 +229,17 @@ pub fn sign_byte(sign: Sign) -> u8
     }
 }
 
-// The length of the text of a schedule whose expiry is rounded down to a month.
-fn text_len(s: Schedule, end: u32) -> usize
-    requires { ⌜ (wellFormed s ≡ true) × (leavesGap s ≡ true) × (end ≡ expiryMonth s) ⌝ }
-    ensures { λ r. ⌜ r ≡ length (textOf s) ⌝ }
+// The length of the text of a list whose expiry is rounded down to a month.
+fn text_len(words: &[u32; 514], end: u32) -> usize
+    requires { ⌜ (unwritable (meant (now words)) ≡ 0) × (end ≡ expiryMonth (meant (now words))) ⌝ }
+    ensures { λ r. ⌜ r ≡ length (textOf (meant (now (words .entry)))) ⌝ }
 {
-    let count = s.count;
+    let count = schedule::count_of(words);
     let mut n: usize = 0;
     let mut last: u32 = 0;
     let mut i: usize = 0;
     while i < count {
-        let month = schedule::wide(s.leaps[i].month);
+        let month = schedule::month_at(words, i);
         n = n + gap_len(month - last) + 1;
         last = month;
         i += 1;
@@ -264,19 +247,18 @@ fn text_len(s: Schedule, end: u32) -> usize
     n + gap_len(end - last) + 1
 }
 
-// Writes the text of a schedule whose expiry is rounded down to a month, from the start of a slice that has room for it.
-fn put_text(s: Schedule, end: u32, out: &mut [u8])
-    requires { ⌜ ((wellFormed s ≡ true) × (leavesGap s ≡ true) × (end ≡ expiryMonth s)) × (length (textOf s) ≤ length (now out)) ⌝ }
-    ensures { λ _. ⌜ now (out .exit) ≡ sets (now (out .entry)) 0 (textOf s) ⌝ }
+// Writes the text of a list whose expiry is rounded down to a month, from the start of a slice that has room for it.
+fn put_text(words: &[u32; 514], end: u32, out: &mut [u8])
+    requires { ⌜ ((unwritable (meant (now words)) ≡ 0) × (end ≡ expiryMonth (meant (now words)))) × (length (textOf (meant (now words))) ≤ length (now out)) ⌝ }
+    ensures { λ _. ⌜ now (out .exit) ≡ sets (now (out .entry)) 0 (textOf (meant (now (words .entry)))) ⌝ }
 {
-    let count = s.count;
+    let count = schedule::count_of(words);
     let mut at: usize = 0;
     let mut last: u32 = 0;
     let mut i: usize = 0;
     while i < count {
-        let l = s.leaps[i];
-        let month = schedule::wide(l.month);
-        let sign = l.sign;
+        let month = schedule::month_at(words, i);
+        let sign = schedule::sign_at(words, i);
         at = put_mark(out, at, month - last, sign_byte(sign));
         last = month;
         i += 1;
@@ -284,33 +266,25 @@ fn put_text(s: Schedule, end: u32, out: &mut [u8])
     put_mark(out, at, end - last, b'?');
 }
 
-// Writes the compact text list of a schedule; any schedule and any output may be given.
-pub fn write_text(s: Schedule, out: &mut [u8]) -> Writing
-    ensures { λ r. ⌜ (r ≡ writing s (textOf s) (length (now (out .entry)))) × (now (out .exit) ≡ written s (textOf s) (now (out .entry))) ⌝ }
+// Writes the compact text list of a schedule in words; any words and any output may be given.
+pub fn write_text(words: &[u32; 514], out: &mut [u8]) -> Writing
+    ensures { λ r. ⌜ (r ≡ writing (meant (now (words .entry))) (textOf (meant (now (words .entry)))) (length (now (out .entry)))) × (now (out .exit) ≡ written (meant (now (words .entry))) (textOf (meant (now (words .entry)))) (now (out .entry))) ⌝ }
 {
-    if schedule::is_well_formed(s) {
-        if schedule::leaves_gap(s) {
-            let end = schedule::expiry_month(s);
-            let n = text_len(s, end);
-            if n <= out.len() {
-                put_text(s, end, out);
-                return Writing {
-                    number: 0,
-                    count: n,
-                };
-            }
-            return Writing {
-                number: refusals::OUTPUT_SHORT,
-                count: 0,
-            };
-        }
+    let number = schedule::unwritable(words);
+    if number != 0 {
+        return Writing { number, count: 0 };
+    }
+    let end = schedule::expiry_month(words);
+    let n = text_len(words, end);
+    if out.len() < n {
         return Writing {
-            number: refusals::NO_GAP,
+            number: refusals::OUTPUT_SHORT,
             count: 0,
         };
     }
+    put_text(words, end, out);
     Writing {
-        number: refusals::NOT_WELL_FORMED,
-        count: 0,
+        number: 0,
+        count: n,
     }
 }

@@ -5,7 +5,7 @@ use native.Mathlib.Nat.{pos-of-ne-zero, lt-irrefl, lt-of-lt-of-le}
 use mathlib.Core.Path.{_≡_, refl, _∙_, sym}
 use Prim.Native.Nat.{ℕ, _≤_, _-_, _+_, _*_}
 use lib.ListN.{length, drop, getD}
-use Rattle.schedule.specs.declared.Schedule.{Schedule}
+use Rattle.schedule.specs.Schedule.{Schedule}
 use Rattle.text.specs.Read.{readFrom}
 use Rattle.text.proofs.Follow.{digit-low, digit-high, leading-zero, fourth-digit, follows}
 use Rattle.text.proofs.Laws as laws

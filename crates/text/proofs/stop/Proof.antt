@@ -1,7 +1,7 @@
 -- `text::stop` meets its contract: in each arm the gap is the arm's constructor, at which `stopped` computes. Assumes nothing.
 use borrow.Author.Needs.{needs}
 use mathlib.Core.Path.{sym, ap}
-use Rattle.text.specs.Inner.{stopped}
+use Rattle.text.specs.Read.{stopped}
 use Rattle.text.proofs.stop.Statement.{statement}
 use Rattle.text.proofs.stop.Tie as tie
 

@@ -1,13 +1,9 @@
 -- `text::text_len` meets its contract. The loop's invariant: the bytes counted so far and those of the rest make the text. Assumes nothing.
-use mathlib.Core.Bool.{true}
-use mathlib.Core.Path.{_≡_, ap}
 use Prim.Native.Nat.{_≤_, _-_, _*_}
 use native.Mathlib.Omega.{arith}
 use borrow.Author.Needs.{needs}
-use lib.ListN.{length, length-map}
-use Rattle.schedule.specs.Schedule.{expiryMonth, leavesGap, wellFormed}
+use Rattle.schedule.specs.WordLayout.{meant}
 use Rattle.text.specs.Bytes.{endByte}
-use Rattle.text.specs.Write.{marked}
 use Rattle.text.proofs.Digits.{few}
 use Rattle.text.proofs.Steps as steps
 use Rattle.text.proofs.Steps.{Standing, marked-length}
@@ -15,48 +11,96 @@ use Rattle.text.proofs.text_len.Statement.{statement}
 use Rattle.text.proofs.text_len.Tie as tie
 
 abbrev Inv-loop : tie.InvT-loop
-Inv-loop end s count n₀ last₀ i₀ n last i = (n ≤ 4 * i) × (s .count ≤ 256) × Standing s n i last
+Inv-loop words end count n₀ last₀ i₀ n last i = (n ≤ 4 * i) × (i ≤ count) × (count ≤ 256) × Standing (meant words) n i last
 
 abbrev μ-loop : tie.MeasureT-loop
-μ-loop end s count n₀ last₀ i₀ n last i = s .count - i
+μ-loop words end count n₀ last₀ i₀ n last i = count - i
+
+loop-holds : tie.Need-loop-holds Inv-loop μ-loop
+loop-holds c =
+    let args = c .before .args in
+    let pre = c .before .pre in
+    let count-of = c .count-of in
+    (search needs, search needs, steps.room (args .words .now) (pre .0) (count-of .ensures) (pre .1), steps.start (args .words .now) (pre .0) (count-of .ensures) (pre .1))
 
 sub-gap-len : tie.Need-sub-gap-len Inv-loop μ-loop
 sub-gap-len c =
-    let s = c .before .before .before .args .t1 in
-    let w : (wellFormed s ≡ true) × (leavesGap s ≡ true) = (c .before .before .before .pre .0, c .before .before .before .pre .1) in
-    let full : length (s .leaps) ≡ 256 = simp length-map at (c .before .before .before .good .0 .1 .1 .0 .1 .0 .1) in
-    let at = c .before .before .loop in
-    steps.gap-sure s w full (at .n) (at .i) (at .last) (at .inv .2) (c .before .loop-test .taken) _ (c .wide .ensures) .0
+    let args = c .before .before .before .before .args in
+    let pre = c .before .before .before .before .pre in
+    let count-of = c .before .before .before .count-of in
+    let loop = c .before .before .loop in
+    let loop-test = c .before .loop-test in
+    let month-at = c .month-at in
+    steps.gap-sure (args .words .now) (pre .0) (count-of .ensures) (pre .1) _ _ _ (loop .inv .3) (loop-test .taken) _ (month-at .ensures) .0
+
+add-n : tie.Need-add-n Inv-loop μ-loop
+add-n c =
+    let month-at = c .before .month-at in
+    let loop = c .before .before .before .loop in
+    let gap-len = c .gap-len in
+    omega (arith, few (month-at .result - loop .last), gap-len .ensures)
+
+add-n-2 : tie.Need-add-n-2 Inv-loop μ-loop
+add-n-2 c =
+    let month-at = c .before .month-at in
+    let loop = c .before .before .before .loop in
+    let gap-len = c .gap-len in
+    omega (arith, few (month-at .result - loop .last), gap-len .ensures)
 
 loop-again : tie.Need-loop-again Inv-loop μ-loop
 loop-again c =
-    let s = c .before .before .before .before .args .t1 in
-    let w : (wellFormed s ≡ true) × (leavesGap s ≡ true) = (c .before .before .before .before .pre .0, c .before .before .before .before .pre .1) in
-    let full : length (s .leaps) ≡ 256 = simp length-map at (c .before .before .before .before .good .0 .1 .1 .0 .1 .0 .1) in
-    let at = c .before .before .before .loop in
-    let g = c .before .wide .result - at .last in (
-      omega (arith, few g, c .gap-len .ensures),
+    let month-at = c .before .month-at in
+    let loop = c .before .before .before .loop in
+    let gap-len = c .gap-len in
+    let args = c .before .before .before .before .before .args in
+    let pre = c .before .before .before .before .before .pre in
+    let count-of = c .before .before .before .before .count-of in
+    let loop-test = c .before .before .loop-test in
+    let g = month-at .result - loop .last in (
+      omega (arith, few g, gap-len .ensures),
       search needs,
-      steps.next s w full (at .n) (at .i) (at .last) (at .inv .2) (c .before .before .loop-test .taken) _ (c .before .wide .ensures) _ endByte (omega (arith, marked-length g endByte, c .gap-len .ensures)),
+      search needs,
+      steps.next (args .words .now) (pre .0) (count-of .ensures) (pre .1) _ _ _ (loop .inv .3) (loop-test .taken) _ (month-at .ensures) _ endByte
+          (omega (arith, marked-length g endByte, gap-len .ensures)),
     )
 
 sub-gap-len-2 : tie.Need-sub-gap-len-2 Inv-loop μ-loop
 sub-gap-len-2 c =
-    let s = c .before .before .args .t1 in
-    let w : (wellFormed s ≡ true) × (leavesGap s ≡ true) = (c .before .before .pre .0, c .before .before .pre .1) in
-    let full : length (s .leaps) ≡ 256 = simp length-map at (c .before .before .good .0 .1 .1 .0 .1 .0 .1) in
-    let at = c .before .loop in
-    omega (arith, c .before .before .pre .2, steps.end-sure s w full (at .n) (at .i) (at .last) (at .inv .2) (c .loop-test .left) .0)
+    let args = c .before .before .before .args in
+    let pre = c .before .before .before .pre in
+    let count-of = c .before .before .count-of in
+    let loop = c .before .loop in
+    let loop-test = c .loop-test in
+    steps.end-sure (args .words .now) (pre .0) (count-of .ensures) (pre .1) _ _ _ (loop .inv .3) (loop-test .left) .0
+
+add-result : tie.Need-add-result Inv-loop μ-loop
+add-result c =
+    let args = c .before .before .before .before .args in
+    let loop = c .before .before .loop in
+    let gap-len2 = c .gap-len2 in
+    omega (arith, few (args .end - loop .last), gap-len2 .ensures)
+
+add-result-2 : tie.Need-add-result-2 Inv-loop μ-loop
+add-result-2 c =
+    let args = c .before .before .before .before .args in
+    let loop = c .before .before .loop in
+    let gap-len2 = c .gap-len2 in
+    omega (arith, few (args .end - loop .last), gap-len2 .ensures)
 
 returns : tie.Need-returns Inv-loop μ-loop
 returns c =
-    let s = c .before .before .before .args .t1 in
-    let w : (wellFormed s ≡ true) × (leavesGap s ≡ true) = (c .before .before .before .pre .0, c .before .before .before .pre .1) in
-    let full : length (s .leaps) ≡ 256 = simp length-map at (c .before .before .before .good .0 .1 .1 .0 .1 .0 .1) in
-    let at = c .before .before .loop in
-    let g = c .before .before .before .args .end - at .last in
-    let same : g ≡ expiryMonth s - at .last = ap (λ m. m - at .last) (c .before .before .before .pre .2) in
-    omega (arith, ap (λ k. length (marked k endByte)) same, marked-length g endByte, c .gap-len2 .ensures, steps.end-length s w full (at .n) (at .i) (at .last) (at .inv .2) (c .before .loop-test .left))
+    let args = c .before .before .before .before .args in
+    let loop = c .before .before .loop in
+    let gap-len2 = c .gap-len2 in
+    let pre = c .before .before .before .before .pre in
+    let count-of = c .before .before .before .count-of in
+    let loop-test = c .before .loop-test in
+    omega (
+      arith,
+      marked-length (args .end - loop .last) endByte,
+      gap-len2 .ensures,
+      steps.end-length (args .words .now) (pre .0) (count-of .ensures) (pre .1) _ _ _ (loop .inv .3) (loop-test .left),
+    )
 
 pub text-len-spec : {M : Type 1} → statement M
 text-len-spec =
@@ -64,19 +108,18 @@ text-len-spec =
     (tie.spec
     Inv-loop
     μ-loop
-    (λ c. (search needs, steps.room (c .args .t1) (c .pre .0, c .pre .1), steps.start (c .args .t1) (c .pre .0, c .pre .1)))
-    (λ c. search needs)
-    (λ c. search needs)
+    (λ c κs. search needs)
+    loop-holds
     (λ c κs. search needs)
     sub-gap-len
     (λ c κs. search needs)
-    (λ c. omega (arith, few (c .before .wide .result - c .before .before .before .loop .last), c .gap-len .ensures, c .before .before .before .loop .inv .2 .within))
-    (λ c. omega (arith, few (c .before .wide .result - c .before .before .before .loop .last), c .gap-len .ensures, c .before .before .before .loop .inv .2 .within))
+    add-n
+    add-n-2
     (λ c. search needs)
     (λ c. search needs)
     loop-again
     sub-gap-len-2
     (λ c κs. search needs)
-    (λ c. omega (arith, few (c .before .before .before .args .end - c .before .before .loop .last), c .gap-len2 .ensures, c .before .before .loop .inv .2 .within))
-    (λ c. omega (arith, few (c .before .before .before .args .end - c .before .before .loop .last), c .gap-len2 .ensures, c .before .before .loop .inv .2 .within))
+    add-result
+    add-result-2
     returns)

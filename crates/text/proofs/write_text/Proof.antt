@@ -1,32 +1,67 @@
--- `text::write_text` meets its contract: one of the four answers. Assumes nothing.
-use borrow.Author.Needs.{needs}
+-- `text::write_text` meets its contract: the number with which every writer refuses, or 7, or the list. Assumes nothing.
+use mathlib.Core.Path.{sym, ap, _∙_}
 use native.Mathlib.Omega.{arith}
-use mathlib.Core.Path.{sym, _∙_}
+use borrow.Author.Needs.{needs}
+use Rattle.schedule.specs.Schedule.{monthOf}
 use Rattle.schedule.proofs.Answers as answers
+use Rattle.schedule.proofs.Meant.{expiry-is}
 use Rattle.text.proofs.write_text.Statement.{statement}
 use Rattle.text.proofs.write_text.Tie as tie
+
+returns : tie.Need-returns
+returns c =
+    let unwritable = c .before .unwritable in
+    let if1 = c .if1 in
+    rw (unwritable .ensures) (answers.refused _ _ _ (λ z. if1 .taken (unwritable .ensures ∙ z)))
+
+text-len-requires : tie.Need-text-len-requires
+text-len-requires c κs =
+    let unwritable = c .before .before .unwritable in
+    let if1 = c .before .if1 in
+    let expiry-month = c .expiry-month in
+    let args = c .before .before .before .before .args in
+    let u = sym (unwritable .ensures) ∙ if1 .left in
+    (u, expiry-month .ensures ∙ ap monthOf (sym (expiry-is (args .words .now) (answers.writable _ u .0))))
+
+returns-2 : tie.Need-returns-2
+returns-2 c =
+    let unwritable = c .before .before .before .before .unwritable in
+    let if1 = c .before .before .before .if1 in
+    let text-len = c .before .text-len in
+    let if2 = c .if2 in
+    let w = answers.writable _ (sym (unwritable .ensures) ∙ if1 .left) in
+    answers.short _ _ _ (w .0) (w .1) _ (text-len .ensures) (if2 .taken)
+
+put-text-requires : tie.Need-put-text-requires
+put-text-requires c κs =
+    let unwritable = c .before .before .before .before .before .unwritable in
+    let if1 = c .before .before .before .before .if1 in
+    let expiry-month = c .before .before .before .expiry-month in
+    let args = c .before .before .before .before .before .before .before .args in
+    let text-len = c .before .before .text-len in
+    let if2 = c .before .if2 in
+    let u = sym (unwritable .ensures) ∙ if1 .left in
+    ((u, expiry-month .ensures ∙ ap monthOf (sym (expiry-is (args .words .now) (answers.writable _ u .0)))), omega (arith, text-len .ensures, if2 .left))
+
+returns-3 : tie.Need-returns-3
+returns-3 c =
+    let unwritable = c .before .before .before .before .before .before .before .before .unwritable in
+    let if1 = c .before .before .before .before .before .before .before .if1 in
+    let text-len = c .before .before .before .before .before .text-len in
+    let if2 = c .before .before .before .before .if2 in
+    let put-text = c .before .before .put-text in
+    let w = answers.writable _ (sym (unwritable .ensures) ∙ if1 .left) in
+    answers.taken _ _ _ (w .0) (w .1) _ (text-len .ensures) (if2 .left) _ (put-text .ensures)
 
 pub write-text-spec : {M : Type 1} → statement M
 write-text-spec =
     tie.close
     (tie.spec
-    -- is-well-formed-requires
     (λ c κs. search needs)
-    -- leaves-gap-requires
+    returns
     (λ c κs. search needs)
-    -- expiry-month-requires
-    (λ c κs. search needs)
-    -- text-len-requires
-    (λ c κs. ((sym (c .before .before .before .before .is-well-formed .ensures) ∙ c .before .before .before .if1 .taken), (sym (c .before .before .leaves-gap .ensures) ∙ c .before .if2 .taken), c .expiry-month .ensures))
-    -- put-text-requires
-    (λ c κs. (((sym (c .before .before .before .before .before .before .before .is-well-formed .ensures) ∙ c .before .before .before .before .before .before .if1 .taken), (sym (c .before .before .before .before .before .leaves-gap .ensures) ∙ c .before .before .before .before .if2 .taken), c .before .before .before .expiry-month .ensures), omega (arith, c .before .before .text-len .ensures)))
-    -- same-length
+    text-len-requires
+    returns-2
+    put-text-requires
     (λ c. search needs)
-    -- returns
-    (λ c. answers.taken _ _ _ (sym (c .before .before .before .before .before .before .before .before .before .before .is-well-formed .ensures) ∙ c .before .before .before .before .before .before .before .before .before .if1 .taken) (sym (c .before .before .before .before .before .before .before .before .leaves-gap .ensures) ∙ c .before .before .before .before .before .before .before .if2 .taken) _ (c .before .before .before .before .before .text-len .ensures) (c .before .before .before .before .if3 .taken) _ (c .before .before .put-text .ensures))
-    -- returns-2
-    (λ c. answers.short _ _ _ (sym (c .before .before .before .before .before .before .is-well-formed .ensures) ∙ c .before .before .before .before .before .if1 .taken) (sym (c .before .before .before .before .leaves-gap .ensures) ∙ c .before .before .before .if2 .taken) _ (c .before .text-len .ensures) (c .if3 .left))
-    -- returns-3
-    (λ c. answers.no-gap _ _ _ (sym (c .before .before .before .is-well-formed .ensures) ∙ c .before .before .if1 .taken) (sym (c .before .leaves-gap .ensures) ∙ c .if2 .left))
-    -- returns-4
-    (λ c. answers.wrong _ _ _ (sym (c .before .is-well-formed .ensures) ∙ c .if1 .left)))
+    returns-3)

@@ -1,4 +1,4 @@
--- What the private functions of the reader promise to each other. No promise to a caller rests on reading this file.
+-- What only private functions are held to. No public contract and no promise speaks of these.
 -- Assumes nothing: these are definitions.
 use Prim.Native.Nat.{ℕ, _≤_, _<_}
 use mathlib.Core.Path.{_≡_}
@@ -6,10 +6,8 @@ use mathlib.Core.Bool.{false}
 use mathlib.Core.List.{List}
 use lib.ListN.{length, getD, drop}
 use Rattle.refusals.specs.Refusals.{endsEarly, notAllowed, badGap}
-use Rattle.schedule.specs.declared.Schedule.{Schedule}
-use Rattle.schedule.specs.declared.Reading.{Reading}
-use Rattle.schedule.specs.Schedule.{maxGap}
-use Rattle.schedule.specs.Answers.{refusal, HandsReading}
+use Rattle.schedule.specs.Schedule.{Schedule, maxGap}
+use Rattle.schedule.specs.Answers.{Reading, refusal, HandsReading}
 use Rattle.text.specs.declared.Gap.{Gap}
 use Rattle.text.specs.declared.Gap.the-variants.{Months, Ended, Misplaced, Malformed}
 use Rattle.text.specs.declared.End.{End}
@@ -21,13 +19,6 @@ use Rattle.text.specs.Read.{readFrom}
 abbrev pub Ends : Reading → End → List ℕ → Type 0
 Ends reading Taken words = HandsReading reading 0 words 0
 Ends reading (Refusal n p) words = reading ≡ refusal n p
-
--- the number and the place of each case in which no gap was read; a gap that is there is no refusal
-abbrev pub stopped : Gap → End
-stopped (Ended c) = Refusal endsEarly (c .at)
-stopped (Misplaced c) = Refusal notAllowed (c .at)
-stopped (Malformed c) = Refusal badGap (c .at)
-stopped (Months g c) = Refusal 0 0
 
 -- a mark is due at a place: a gap of 1 to 999 was read, and no digit follows
 pub record Due (bytes : List ℕ) (place gap : ℕ) : Type 0 where
