@@ -4,7 +4,6 @@ use mathlib.Core.List.{List}
 use Prim.Native.Nat.{ℕ}
 use lib.IntN.{ℤ}
 use Rattle.format.specs.Decimal.{decimal, signed}
-use Rattle.schedule.specs.declared.Schedule.{Schedule}
 use Rattle.clock.specs.Question.{Answer, given, refused, Utc, TAI-to-UTC, dtaiOn, utcToTai, taiToUtc, utcToUts, utsToUtc}
 use Rattle.clock.specs.Answers.{dtaiAnswer, taiAnswer, utcAnswer, utsAnswer, microsAnswer}
 use Rattle.clock.specs.declared.DtaiAnswer.{DtaiAnswer}
@@ -15,10 +14,11 @@ use Rattle.clock.specs.declared.MicrosAnswer.{MicrosAnswer}
 use Rattle.clock.specs.declared.TaiMicros.{TaiMicros}
 use Rattle.clock.specs.declared.UtcMicros.{UtcMicros}
 use Rattle.clock.specs.declared.UtsNanos.{UtsNanos}
+use Rattle.schedule.specs.Schedule.{Schedule}
 use Rattle.answers.specs.declared.times.Asked.{Asked}
 use Rattle.answers.specs.declared.times.Asked.the-variants as asked
 use Rattle.answers.specs.Times.{valuesOf, told, askedOf, questionOf}
-use Rattle.answers.specs.Inner.{ofDtai, ofTai, ofUtc, ofUts, ofMicros}
+use Rattle.answers.specs.Private.{ofDtai, ofTai, ofUtc, ofUts, ofMicros}
 
 in-dtai : (a : Answer ℤ) → told signed a ≡ ofDtai (dtaiAnswer a)
 in-dtai (given z) = refl

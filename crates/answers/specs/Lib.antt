@@ -1,3 +1,3 @@
 pub mod Lists
 pub mod Times
-pub mod Inner
+pub mod Private

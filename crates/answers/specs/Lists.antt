@@ -6,9 +6,8 @@ use mathlib.Core.List.{List}
 use Rattle.format.specs.Ascii.{ascii}
 use Rattle.format.specs.Hex.{hex}
 use Rattle.format.specs.Parts.{same}
-use Rattle.schedule.specs.declared.Schedule.{Schedule}
-use Rattle.schedule.specs.declared.Reading.{Reading}
-use Rattle.schedule.specs.Answers.{byReading}
+use Rattle.schedule.specs.Schedule.{Schedule}
+use Rattle.schedule.specs.Answers.{Reading, byReading}
 use Rattle.text.specs.Read.{readText}
 use Rattle.nybbles.specs.Write.{nybblesOf}
 use Rattle.compare.specs.declared.longer.Chosen.{Chosen}

@@ -3,7 +3,6 @@
 use Prim.Native.Nat.{ℕ}
 use mathlib.Core.List.{List}
 use Rattle.format.specs.Decimal.{decimal, signed}
-use Rattle.schedule.specs.declared.Schedule.{Schedule}
 use Rattle.clock.specs.Question.{
   Answer,
   given,
@@ -19,6 +18,7 @@ use Rattle.clock.specs.Question.{
 }
 use Rattle.format.specs.Lines.{twoNumbers}
 use Rattle.format.specs.Refusal.{refusal}
+use Rattle.schedule.specs.Schedule.{Schedule}
 use Rattle.answers.specs.declared.times.Asked.{Asked}
 use Rattle.answers.specs.declared.times.Asked.the-variants as asked
 use Rattle.answers.specs.Lists.{aboutList}

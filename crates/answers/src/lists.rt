@@ -4,15 +4,15 @@ ghost use mathlib.Core.Bool.{true};
 ghost use Rattle.format.specs.Output.{PutsUpTo};
 ghost use Rattle.format.specs.Hex.{hex};
 ghost use Rattle.schedule.specs.Schedule.{leavesGap, wellFormed};
+ghost use Rattle.schedule.specs.WordLayout.{meant};
+ghost use Rattle.schedule.specs.Answers.{HandsReading};
 ghost use Rattle.text.specs.Read.{readText};
 ghost use Rattle.nybbles.specs.Write.{nybblesOf};
-ghost use Rattle.answers.specs.Inner.{namedBy};
+ghost use Rattle.answers.specs.Private.{namedBy};
 ghost use Rattle.answers.specs.Lists.{listOf, nybblesAnswer};
 use format::hex::put_hex;
 use format::parts::same;
 use format::refusal::put_refusal_at;
-use schedule::Reading;
-use schedule::Schedule;
 
 // The embedded list.
 pub(crate) const CURRENT: [u8; 83] =
@@ -28,21 +28,21 @@ pub(crate) fn list_of<'a>(field: &'a [u8], embedded: &'a [u8]) -> &'a [u8]
     field
 }
 
-// Reads the list that a field names.
-pub fn read_list(field: &[u8]) -> Reading
-    ensures { λ r. ⌜ r ≡ readText (listOf (now (field .entry))) ⌝ }
+// Reads the list that a field names into its words.
+pub fn read_list(field: &[u8], words: &mut [u32; 514], place: &mut u64) -> u8
+    ensures { λ n. ⌜ HandsReading (readText (listOf (now (field .entry)))) n (now (words .exit)) (now (place .exit)) ⌝ }
 {
     let embedded = CURRENT;
-    text::read_text(list_of(field, &embedded))
+    text::read_text(list_of(field, &embedded), words, place)
 }
 
-// Puts a schedule as nybbles, in hex.
-fn put_nybbles(out: &mut [u8], at: usize, s: Schedule) -> usize
-    requires { ⌜ (wellFormed s ≡ true) × (leavesGap s ≡ true) ⌝ }
-    ensures { λ r. ⌜ PutsUpTo 4800 (now (out .entry)) (now (out .exit)) at r (hex (nybblesOf s)) ⌝ }
+// Puts a list as nybbles, in hex.
+fn put_nybbles(out: &mut [u8], at: usize, words: &[u32; 514]) -> usize
+    requires { ⌜ (wellFormed (meant (now words)) ≡ true) × (leavesGap (meant (now words)) ≡ true) ⌝ }
+    ensures { λ r. ⌜ PutsUpTo 4800 (now (out .entry)) (now (out .exit)) at r (hex (nybblesOf (meant (now (words .entry))))) ⌝ }
 {
     let mut bytes = [0u8; 2400];
-    let w = nybbles::write_nybbles(s, &mut bytes);
+    let w = nybbles::write_nybbles(words, &mut bytes);
     let n = w.count;
     put_hex(out, at, &bytes[..n])
 }
@@ -51,11 +51,11 @@ fn put_nybbles(out: &mut [u8], at: usize, s: Schedule) -> usize
 pub fn put_list_nybbles(out: &mut [u8], at: usize, list: &[u8]) -> usize
     ensures { λ r. ⌜ PutsUpTo 4800 (now (out .entry)) (now (out .exit)) at r (nybblesAnswer (now (list .entry))) ⌝ }
 {
-    let r = read_list(list);
-    let number = r.number;
+    let mut words = [0u32; 514];
+    let mut place: u64 = 0;
+    let number = read_list(list, &mut words, &mut place);
     if number != 0 {
-        return put_refusal_at(out, at, number, r.place);
+        return put_refusal_at(out, at, number, place as usize);
     }
-    let s = r.schedule;
-    put_nybbles(out, at, s)
+    put_nybbles(out, at, &words)
 }

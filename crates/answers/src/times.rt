@@ -1,7 +1,8 @@
 // Answers to time questions under a list.
 ghost use Rattle.format.specs.Output.{PutsUpTo};
 ghost use Rattle.answers.specs.Times.{askedOf, askedUnder, questionOf};
-ghost use Rattle.answers.specs.Inner.{ofDtai, ofTai, ofUtc, ofUts, ofMicros};
+ghost use Rattle.schedule.specs.WordLayout.{meant};
+ghost use Rattle.answers.specs.Private.{ofDtai, ofTai, ofUtc, ofUts, ofMicros};
 use crate::lists::read_list;
 use clock::DtaiAnswer;
 use clock::MicrosAnswer;
@@ -16,7 +17,6 @@ use format::decimal::put_signed;
 use format::lines::put_two_numbers;
 use format::refusal::put_refusal;
 use format::refusal::put_refusal_at;
-use schedule::Schedule;
 
 // A time question, with a day or an instant.
 pub enum Asked {
@@ -77,16 +77,16 @@ fn put_micros(out: &mut [u8], at: usize, a: MicrosAnswer) -> usize
     }
 }
 
-// Puts the answer of a schedule to a time question.
-fn put_asked_of(out: &mut [u8], at: usize, s: Schedule, q: Asked) -> usize
-    ensures { λ r. ⌜ PutsUpTo 41 (now (out .entry)) (now (out .exit)) at r (askedOf (questionOf q) s) ⌝ }
+// Puts the answer of a list, as words, to a time question.
+fn put_asked_of(out: &mut [u8], at: usize, words: &[u32; 514], q: Asked) -> usize
+    ensures { λ r. ⌜ PutsUpTo 41 (now (out .entry)) (now (out .exit)) at r (askedOf (questionOf q) (meant (now (words .entry)))) ⌝ }
 {
     match q {
-        Asked::Dtai(day) => put_dtai(out, at, clock::dtai(s, day)),
-        Asked::Tai(day, t) => put_tai(out, at, clock::utc_to_tai(s, day, t)),
-        Asked::Utc(x) => put_utc(out, at, clock::tai_to_utc(s, x)),
-        Asked::Uts(day, t) => put_uts(out, at, clock::utc_to_uts(s, day, t)),
-        Asked::Unsmooth(day, u) => put_micros(out, at, clock::uts_to_utc(s, day, u)),
+        Asked::Dtai(day) => put_dtai(out, at, questions::dtai(words, day)),
+        Asked::Tai(day, t) => put_tai(out, at, questions::utc_to_tai(words, day, t)),
+        Asked::Utc(x) => put_utc(out, at, questions::tai_to_utc(words, x)),
+        Asked::Uts(day, t) => put_uts(out, at, questions::utc_to_uts(words, day, t)),
+        Asked::Unsmooth(day, u) => put_micros(out, at, questions::uts_to_utc(words, day, u)),
     }
 }
 
@@ -94,11 +94,11 @@ fn put_asked_of(out: &mut [u8], at: usize, s: Schedule, q: Asked) -> usize
 pub fn put_asked(out: &mut [u8], at: usize, list: &[u8], q: Asked) -> usize
     ensures { λ r. ⌜ PutsUpTo 42 (now (out .entry)) (now (out .exit)) at r (askedUnder (now (list .entry)) (questionOf q)) ⌝ }
 {
-    let r = read_list(list);
-    let number = r.number;
+    let mut words = [0u32; 514];
+    let mut place: u64 = 0;
+    let number = read_list(list, &mut words, &mut place);
     if number != 0 {
-        return put_refusal_at(out, at, number, r.place);
+        return put_refusal_at(out, at, number, place as usize);
     }
-    let s = r.schedule;
-    put_asked_of(out, at, s, q)
+    put_asked_of(out, at, &words, q)
 }

@@ -14,8 +14,6 @@ use Rattle.format.specs.Hex.{isHex, unhex, hex}
 use Rattle.format.specs.Parts.{parts}
 use Rattle.format.proofs.Fields.{hasNo}
 use Rattle.format.proofs.Unbroken.{Unbroken, more, parted, append, either, in-decimal, in-signed, in-hex, in-refusal, with-place, first-part}
-use Rattle.schedule.specs.declared.Schedule.{Schedule}
-use Rattle.schedule.specs.declared.Reading.{Reading}
 use Rattle.text.specs.Read.{readText}
 use Rattle.text.specs.Write.{textOf}
 use Rattle.nybbles.specs.Read.{readNybbles}
@@ -32,6 +30,8 @@ use Rattle.stream.proofs.Lines.{not-last}
 use Rattle.show.specs.Show.{shown}
 use Rattle.answers.specs.Lists.{listOf, aboutRead}
 use Rattle.answers.specs.Times.{valuesOf, told, askedOf, askedUnder}
+use Rattle.schedule.specs.Answers.{Reading}
+use Rattle.schedule.specs.Schedule.{Schedule}
 use Rattle.command.specs.Answer.{aboutNumber, aboutOne, aboutTwo, textAnswer, withOne, withTwo, withThree, answerFor, answerParts, maxLine, tooLong, answerTo}
 use Rattle.command.specs.Lines.{answerLine, asking}
 use Rattle.command.proofs.TwoLists.{in-reading, in-comparison, in-longer}

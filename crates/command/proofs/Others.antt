@@ -12,7 +12,7 @@ use Rattle.line.specs.declared.words.Word.{Word}
 use Rattle.line.specs.declared.words.Word.the-variants.{Show, Nybbles, Text, Dtai, Tai, Utc, Uts, Unsmooth, Compare, Longer, Other}
 use Rattle.line.specs.Words.{expected}
 use Rattle.command.specs.Answer.{withOne, withTwo, withThree}
-use Rattle.command.specs.Inner.{withNumber}
+use Rattle.command.specs.Private.{withNumber}
 
 abbrev other-one-tags : List ℕ
 other-one-tags = 3 ∷ 4 ∷ 5 ∷ 6 ∷ 7 ∷ 8 ∷ 9 ∷ 10 ∷ []

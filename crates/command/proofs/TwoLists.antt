@@ -6,9 +6,8 @@ use Prim.Native.Nat.{ℕ}
 use lib.Dec.{eqb}
 use Rattle.format.specs.Lines.{between}
 use Rattle.format.proofs.Unbroken.{Unbroken, empty, append, either, in-decimal, in-refusal}
-use Rattle.schedule.specs.declared.Schedule.{Schedule}
-use Rattle.schedule.specs.declared.Reading.{Reading}
-use Rattle.schedule.specs.Answers.{byReading}
+use Rattle.schedule.specs.Schedule.{Schedule}
+use Rattle.schedule.specs.Answers.{Reading, byReading}
 use Rattle.text.specs.Read.{readText}
 use Rattle.text.proofs.Spelling.{one-spelling}
 use Rattle.compare.specs.declared.longer.Chosen.{Chosen}

@@ -6,10 +6,8 @@ use Prim.Native.Nat.{ℕ, _+_, _-_}
 use Rattle.format.specs.Ascii.{ascii}
 use Rattle.format.proofs.Fields.{hasNo}
 use Rattle.format.proofs.Unbroken.{Unbroken, empty, more, append, either, digit, in-decimal, with-sign, in-refusal}
-use Rattle.schedule.specs.declared.Leap.{Leap}
-use Rattle.schedule.specs.declared.Schedule.{Schedule}
 use Rattle.calendar.specs.Calendar.{monthStart, monthOf}
-use Rattle.schedule.specs.Schedule.{leapsOf, expiryMonth}
+use Rattle.schedule.specs.Schedule.{Leap, Schedule, expiryMonth}
 use Rattle.text.specs.Write.{digits, textFrom, textOf}
 use Rattle.compare.proofs.Shown.{sign}
 use Rattle.line.specs.declared.words.Word.{Word}
@@ -31,7 +29,7 @@ text-from from (l ∷ ls) expiry = let rest = text-from (l .month) ls expiry in 
 
 pub in-text : (s : Schedule) → Unbroken (textOf s)
 unfolding textOf
-in-text s = text-from 0 (leapsOf s) (expiryMonth s)
+in-text s = text-from 0 (s .leaps) (expiryMonth s)
 
 -- ---- what was expected
 

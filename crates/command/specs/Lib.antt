@@ -1,3 +1,3 @@
 pub mod Answer
-pub mod Inner
+pub mod Private
 pub mod Lines

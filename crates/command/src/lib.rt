@@ -5,7 +5,7 @@ ghost use Rattle.format.specs.Output.{PutsUpTo};
 ghost use Rattle.format.specs.Parts.{parts};
 ghost use Rattle.format.specs.Lines.{spaceByte};
 ghost use Rattle.command.specs.Answer.{maxLine, maxAnswer, withOne, withTwo, withThree, answerFor, answerTo, Answered};
-ghost use Rattle.command.specs.Inner.{withNumber};
+ghost use Rattle.command.specs.Private.{withNumber};
 ghost use Rattle.stream.specs.Lines.{linesOf};
 ghost use Rattle.stream.specs.Stream.{answered, LinesAnswered};
 ghost use Rattle.command.specs.Lines.{asking};

@@ -6,6 +6,8 @@ ghost use lib.ListN.{length};
 ghost use Rattle.format.specs.Output.{PutsUpTo};
 ghost use Rattle.format.specs.Hex.{unhex};
 ghost use Rattle.schedule.specs.Schedule.{leavesGap, wellFormed};
+ghost use Rattle.schedule.specs.WordLayout.{meant};
+ghost use Rattle.schedule.specs.Answers.{HandsReading};
 ghost use Rattle.text.specs.Write.{textOf};
 ghost use Rattle.nybbles.specs.Read.{readNybbles};
 ghost use Rattle.show.specs.Show.{shown};
@@ -18,41 +20,39 @@ use format::output::put_all;
 use format::refusal::put_refusal_at;
 use line::words::Word;
 use line::words::put_expected;
-use schedule::Reading;
-use schedule::Schedule;
 
 // Puts the answer about a list as its stretches of constant DTAI.
 pub(crate) fn put_list_shown(out: &mut [u8], at: usize, lines: bool, list: &[u8]) -> usize
     ensures { λ r. ⌜ PutsUpTo maxAnswer (now (out .entry)) (now (out .exit)) at r (aboutList (now (list .entry)) (shown lines)) ⌝ }
 {
-    let r = read_list(list);
-    let number = r.number;
+    let mut words = [0u32; 514];
+    let mut place: u64 = 0;
+    let number = read_list(list, &mut words, &mut place);
     if number != 0 {
-        return put_refusal_at(out, at, number, r.place);
+        return put_refusal_at(out, at, number, place as usize);
     }
-    let s = r.schedule;
-    show::put_shown(out, at, lines, s)
+    show::put_shown(out, at, lines, &words)
 }
 
-// Puts a schedule as text.
-fn put_text(out: &mut [u8], at: usize, s: Schedule) -> usize
-    requires { ⌜ (wellFormed s ≡ true) × (leavesGap s ≡ true) ⌝ }
-    ensures { λ r. ⌜ PutsUpTo 1028 (now (out .entry)) (now (out .exit)) at r (textOf s) ⌝ }
+// Puts a list as text.
+fn put_text(out: &mut [u8], at: usize, words: &[u32; 514]) -> usize
+    requires { ⌜ (wellFormed (meant (now words)) ≡ true) × (leavesGap (meant (now words)) ≡ true) ⌝ }
+    ensures { λ r. ⌜ PutsUpTo 1028 (now (out .entry)) (now (out .exit)) at r (textOf (meant (now (words .entry)))) ⌝ }
 {
     let mut bytes = [0u8; 1028];
-    let w = text::write_text(s, &mut bytes);
+    let w = text::write_text(words, &mut bytes);
     let n = w.count;
     put_all(out, at, &bytes[..n])
 }
 
-// Reads a nybble list that a field has in hex.
-fn read_hex(field: &[u8]) -> Reading
+// Reads a nybble list that a field has in hex into its words.
+fn read_hex(field: &[u8], words: &mut [u32; 514], place: &mut u64) -> u8
     requires { ⌜ length (now field) ≤ maxLine ⌝ }
-    ensures { λ r. ⌜ r ≡ readNybbles (unhex (now (field .entry))) ⌝ }
+    ensures { λ n. ⌜ HandsReading (readNybbles (unhex (now (field .entry)))) n (now (words .exit)) (now (place .exit)) ⌝ }
 {
     let mut bytes = [0u8; 4096];
     let n = put_unhex(&mut bytes, 0, field);
-    nybbles::read_nybbles(&bytes[..n])
+    nybbles::read_nybbles(&bytes[..n], words, place)
 }
 
 // Puts the answer about a nybble list, in hex, as text.
@@ -63,11 +63,11 @@ pub(crate) fn put_text_answer(out: &mut [u8], at: usize, field: &[u8]) -> usize
     if !is_hex(field) {
         return put_expected(out, at, Word::Text);
     }
-    let r = read_hex(field);
-    let number = r.number;
+    let mut words = [0u32; 514];
+    let mut place: u64 = 0;
+    let number = read_hex(field, &mut words, &mut place);
     if number != 0 {
-        return put_refusal_at(out, at, number, r.place);
+        return put_refusal_at(out, at, number, place as usize);
     }
-    let s = r.schedule;
-    put_text(out, at, s)
+    put_text(out, at, &words)
 }

@@ -5,9 +5,8 @@ use mathlib.Core.Path.{_≡_, refl}
 use mathlib.Core.List.{List, [], _∷_}
 use Rattle.calendar.specs.Calendar.{isLeapYear, monthLengths, daysInMonth, monthStart}
 use Rattle.schedule.specs.declared.Sign.the-variants.{Positive}
-use Rattle.schedule.specs.declared.Reading.{Reading}
-use Rattle.schedule.specs.Schedule.{blankSchedule, gapsFit, allUnused}
-use Rattle.schedule.specs.Answers.{refusal, accepted, withLeap}
+use Rattle.schedule.specs.Schedule.{blankSchedule, gapsFit}
+use Rattle.schedule.specs.Answers.{Reading, refusal, accepted, withLeap}
 use Rattle.text.specs.Read.{readFrom, readText}
 use Rattle.nybbles.specs.Codes.{nybbles, single, wide, codesOf}
 use Rattle.nybbles.specs.Read.{fault, after, readCodes, readNybbles}
@@ -70,5 +69,5 @@ table =
 
 -- every row of the table holds of the definitions
 pub p1-to-p12 : SayAll table
-unfolding readFrom readText nybbles single wide codesOf fault after readCodes readNybbles isLeapYear monthLengths daysInMonth monthStart gapsFit allUnused knownTo uts
+unfolding readFrom readText nybbles single wide codesOf fault after readCodes readNybbles isLeapYear monthLengths daysInMonth monthStart gapsFit knownTo uts
 p1-to-p12 = (refl, (refl, (refl, (refl, (refl, (refl, (refl, (refl, (refl, (refl, (refl, (refl, (refl, (refl, tt))))))))))))))

@@ -7,8 +7,6 @@ use clock::UtcAnswer;
 use clock::UtcMicros;
 use clock::UtsAnswer;
 use clock::UtsNanos;
-use schedule::Reading;
-use schedule::Schedule;
 
 fn put(words: &[u8]) {
     io::write_all(1, words);
@@ -20,33 +18,44 @@ fn number(n: u64) {
 }
 
 // What a reader answers: number, place, how many leaps, expiry.
-fn reading(r: Reading) {
-    number(r.number as u64);
-    number(r.place as u64);
-    number(r.schedule.count as u64);
-    number(r.schedule.expiry as u64);
+fn reading(n: u8, place: u64, words: &[u32; 514]) {
+    number(n as u64);
+    number(place);
+    number(schedule::count_of(words) as u64);
+    number(schedule::expiry_of(words) as u64);
     put(b"\n");
 }
 
 fn text(name: &[u8], list: &[u8]) {
     put(name);
-    reading(text::read_text(list));
+    let mut words = [0u32; 514];
+    let mut place: u64 = 0;
+    let n = text::read_text(list, &mut words, &mut place);
+    reading(n, place, &words);
 }
 
 fn nybbles(name: &[u8], list: &[u8]) {
     put(name);
-    reading(nybbles::read_nybbles(list));
+    let mut words = [0u32; 514];
+    let mut place: u64 = 0;
+    let n = nybbles::read_nybbles(list, &mut words, &mut place);
+    reading(n, place, &words);
+}
+
+// The words of a text list.
+fn list_of(list: &[u8]) -> [u32; 514] {
+    let mut words = [0u32; 514];
+    let mut place: u64 = 0;
+    text::read_text(list, &mut words, &mut place);
+    words
 }
 
 // The month of the last leap.
-fn last_leap(name: &[u8], s: Schedule) {
+fn last_leap(name: &[u8], words: &[u32; 514]) {
     put(name);
-    let n = s.count;
+    let n = schedule::count_of(words);
     if 0 < n {
-        if n <= 256 {
-            let l = s.leaps[n - 1];
-            number(l.month as u64);
-        }
+        number(schedule::month_at(words, n - 1) as u64);
     }
     put(b"\n");
 }
@@ -55,11 +64,11 @@ fn wide(x: u8) -> u64 {
     x as u64
 }
 
-// The nybbles of a schedule in hex: the writer's number, then the bytes.
-fn written(name: &[u8], s: Schedule) {
+// The nybbles of a list in hex: the writer's number, then the bytes.
+fn written(name: &[u8], words: &[u32; 514]) {
     put(name);
     let mut out = [0u8; 64];
-    let w = nybbles::write_nybbles(s, &mut out);
+    let w = nybbles::write_nybbles(words, &mut out);
     number(w.number as u64);
     put(b" ");
     let n = w.count;
@@ -79,9 +88,9 @@ fn month(name: &[u8], m: u32) {
     put(b"\n");
 }
 
-fn dtai(name: &[u8], s: Schedule, day: u64) {
+fn dtai(name: &[u8], words: &[u32; 514], day: u64) {
     put(name);
-    match clock::dtai(s, day) {
+    match questions::dtai(words, day) {
         DtaiAnswer::Given(d) => {
             if 0 <= d {
                 number(0);
@@ -93,9 +102,9 @@ fn dtai(name: &[u8], s: Schedule, day: u64) {
     put(b"\n");
 }
 
-fn tai(name: &[u8], s: Schedule, day: u64, micros: u64) {
+fn tai(name: &[u8], words: &[u32; 514], day: u64, micros: u64) {
     put(name);
-    match clock::utc_to_tai(s, day, UtcMicros(micros)) {
+    match questions::utc_to_tai(words, day, UtcMicros(micros)) {
         TaiAnswer::Given(x) => {
             number(0);
             number(x.0);
@@ -105,9 +114,9 @@ fn tai(name: &[u8], s: Schedule, day: u64, micros: u64) {
     put(b"\n");
 }
 
-fn utc(name: &[u8], s: Schedule, x: u64) {
+fn utc(name: &[u8], words: &[u32; 514], x: u64) {
     put(name);
-    match clock::tai_to_utc(s, TaiMicros(x)) {
+    match questions::tai_to_utc(words, TaiMicros(x)) {
         UtcAnswer::Given(day, t) => {
             number(0);
             number(day);
@@ -119,13 +128,13 @@ fn utc(name: &[u8], s: Schedule, x: u64) {
 }
 
 // Smoothed time, and what it goes back to.
-fn uts(name: &[u8], s: Schedule, day: u64, micros: u64) {
+fn uts(name: &[u8], words: &[u32; 514], day: u64, micros: u64) {
     put(name);
-    match clock::utc_to_uts(s, day, UtcMicros(micros)) {
+    match questions::utc_to_uts(words, day, UtcMicros(micros)) {
         UtsAnswer::Given(u) => {
             number(0);
             number(u.0);
-            match clock::uts_to_utc(s, day, UtsNanos(u.0)) {
+            match questions::uts_to_utc(words, day, UtsNanos(u.0)) {
                 MicrosAnswer::Given(t) => number(t.0),
                 MicrosAnswer::Refused(n) => number(n as u64),
             }
@@ -149,7 +158,7 @@ fn readings() {
 }
 
 // P10 to P12: smoothed time on the day of the leap.
-fn smoothed(plus: Schedule, minus: Schedule) {
+fn smoothed(pluwords: &[u32; 514], minuwords: &[u32; 514]) {
     uts(b"P10", plus, 41498, 86_400_000_000);
     uts(b"P11", plus, 41498, 85_401_000_000);
     uts(b"P11", plus, 41498, 85_402_000_000);
@@ -168,11 +177,10 @@ fn months() {
 fn list_a() {
     let list = b"6+6+12+12+12+12+12+12+12+18+12+12+24+30+24+12+18+12+12+5?";
     text(b"A", list);
-    let r = text::read_text(list);
-    let s = r.schedule;
-    last_leap(b"A last", s);
-    dtai(b"A DTAI", s, calendar::month_start(270));
-    written(b"A nybbles", s);
+    let words = list_of(list);
+    last_leap(b"A last", &words);
+    dtai(b"A DTAI", &words, calendar::month_start(270));
+    written(b"A nybbles", &words);
 }
 
 // By the bytecode rule 0x82 is 18 months, and 36 months is 0x85.
@@ -184,98 +192,100 @@ fn bytecodes() {
 fn list_b() {
     let list = b"\x00\x11\x11\x11\x12\x11\x34\x31\x21\x12\x22\x9D\x56\x52\x87\xFA";
     nybbles(b"B", list);
-    let r = nybbles::read_nybbles(list);
-    let s = r.schedule;
-    last_leap(b"B last", s);
-    dtai(b"B DTAI", s, 57754);
-    dtai(b"B DTAI", s, 57753);
-    dtai(b"B DTAI", s, 59548);
-    uts(b"B UTS", s, 59548, 85_399_000_000);
-    tai(b"B TAI", s, 59548, 85_399_000_000);
+    let mut words = [0u32; 514];
+    let mut place: u64 = 0;
+    nybbles::read_nybbles(list, &mut words, &mut place);
+    last_leap(b"B last", &words);
+    dtai(b"B DTAI", &words, 57754);
+    dtai(b"B DTAI", &words, 57753);
+    dtai(b"B DTAI", &words, 59548);
+    uts(b"B UTS", &words, 59548, 85_399_000_000);
+    tai(b"B TAI", &words, 59548, 85_399_000_000);
 }
 
 // The first table of document 002, at a day that ends with an inserted second, and the start of the next day.
-fn inserted(s: Schedule) {
-    uts(b"inserted", s, 41498, 85_400_000_000);
-    uts(b"inserted", s, 41498, 85_401_000_000);
-    uts(b"inserted", s, 41498, 85_402_000_000);
-    uts(b"inserted", s, 41498, 85_403_000_000);
-    uts(b"inserted", s, 41498, 85_404_000_000);
-    uts(b"inserted", s, 41498, 86_399_000_000);
-    uts(b"inserted", s, 41498, 86_400_000_000);
-    uts(b"inserted", s, 41499, 0);
-    uts(b"inserted", s, 41499, 1_000_000);
+fn inserted(words: &[u32; 514]) {
+    uts(b"inserted", words, 41498, 85_400_000_000);
+    uts(b"inserted", words, 41498, 85_401_000_000);
+    uts(b"inserted", words, 41498, 85_402_000_000);
+    uts(b"inserted", words, 41498, 85_403_000_000);
+    uts(b"inserted", words, 41498, 85_404_000_000);
+    uts(b"inserted", words, 41498, 86_399_000_000);
+    uts(b"inserted", words, 41498, 86_400_000_000);
+    uts(b"inserted", words, 41499, 0);
+    uts(b"inserted", words, 41499, 1_000_000);
 }
 
 // The second, at a day that ends with a deleted second.
-fn deleted(s: Schedule) {
-    uts(b"deleted", s, 41498, 85_398_000_000);
-    uts(b"deleted", s, 41498, 85_399_000_000);
-    uts(b"deleted", s, 41498, 85_400_000_000);
-    uts(b"deleted", s, 41498, 85_401_000_000);
-    uts(b"deleted", s, 41498, 85_402_000_000);
-    uts(b"deleted", s, 41498, 85_403_000_000);
-    uts(b"deleted", s, 41498, 86_398_000_000);
-    uts(b"deleted", s, 41499, 0);
-    uts(b"deleted", s, 41499, 1_000_000);
+fn deleted(words: &[u32; 514]) {
+    uts(b"deleted", words, 41498, 85_398_000_000);
+    uts(b"deleted", words, 41498, 85_399_000_000);
+    uts(b"deleted", words, 41498, 85_400_000_000);
+    uts(b"deleted", words, 41498, 85_401_000_000);
+    uts(b"deleted", words, 41498, 85_402_000_000);
+    uts(b"deleted", words, 41498, 85_403_000_000);
+    uts(b"deleted", words, 41498, 86_398_000_000);
+    uts(b"deleted", words, 41499, 0);
+    uts(b"deleted", words, 41499, 1_000_000);
 }
 
 // TAI at the first instant of 1972, and the one instant of it; DTAI in the inserted second is the old one.
-fn atomic(s: Schedule) {
-    tai(b"1972 TAI", s, 41317, 0);
-    utc(b"1972 UTC", s, 10_000_000);
-    tai(b"leap TAI", s, 41498, 86_400_000_000);
-    tai(b"next TAI", s, 41499, 0);
+fn atomic(words: &[u32; 514]) {
+    tai(b"1972 TAI", words, 41317, 0);
+    utc(b"1972 UTC", words, 10_000_000);
+    tai(b"leap TAI", words, 41498, 86_400_000_000);
+    tai(b"next TAI", words, 41499, 0);
 }
 
 // A list without leaps that expires on a day.
-fn expiring(expiry: u32) -> Schedule {
-    let none = schedule::blank();
-    let leaps = none.leaps;
-    Schedule {
-        leaps,
-        count: 0,
-        expiry,
-    }
+fn expiring(expiry: u32) -> [u32; 514] {
+    let mut words = [0u32; 514];
+    words[513] = expiry;
+    words
+}
+
+fn until(name: &[u8], expiry: u32) {
+    let words = expiring(expiry);
+    written(name, &words);
 }
 
 // 10/14: which expiry days of a list without leaps are well formed and can be written.
 fn expiries() {
-    written(b"until 41317", expiring(41_317));
-    written(b"until 41318", expiring(41_318));
-    written(b"until 41347", expiring(41_347));
-    written(b"until 41348", expiring(41_348));
-    written(b"until 71752", expiring(71_752));
-    written(b"until 71753", expiring(71_753));
+    until(b"until 41317", 41_317);
+    until(b"until 41318", 41_318);
+    until(b"until 41347", 41_347);
+    until(b"until 41348", 41_348);
+    until(b"until 71752", 71_752);
+    until(b"until 71753", 71_753);
 }
 
 // 10/14: the last day before an expiry within a month, 41360, is known to its end.
 fn last_day() {
-    let s = expiring(41_360);
-    uts(b"within UTS", s, 41_359, 86_399_999_999);
-    uts(b"within UTS", s, 41_359, 86_400_000_000);
-    uts(b"within UTS", s, 41_360, 0);
-    tai(b"within TAI", s, 41_359, 86_399_999_999);
-    tai(b"within TAI", s, 41_359, 86_400_000_000);
-    utc(b"within UTC", s, 3_715_209_999_999);
-    utc(b"within UTC", s, 3_715_210_000_000);
+    let words = expiring(41_360);
+    uts(b"within UTS", &words, 41_359, 86_399_999_999);
+    uts(b"within UTS", &words, 41_359, 86_400_000_000);
+    uts(b"within UTS", &words, 41_360, 0);
+    tai(b"within TAI", &words, 41_359, 86_399_999_999);
+    tai(b"within TAI", &words, 41_359, 86_400_000_000);
+    utc(b"within UTC", &words, 3_715_209_999_999);
+    utc(b"within UTC", &words, 3_715_210_000_000);
 }
 
 fn main() {
     readings();
-    let plus = text::read_text(b"6+5?").schedule;
-    let minus = text::read_text(b"6-5?").schedule;
-    smoothed(plus, minus);
+    let plus = list_of(b"6+5?");
+    let minus = list_of(b"6-5?");
+    smoothed(&plus, &minus);
     months();
     list_a();
     list_b();
     bytecodes();
     text(b"N", b"6-5?");
-    let whole = text::read_text(b"999?").schedule;
-    written(b"999", whole);
-    inserted(plus);
-    deleted(minus);
-    atomic(plus);
+    let whole = list_of(b"999?");
+    written(b"999", &whole);
+    inserted(&plus);
+    deleted(&minus);
+    atomic(&plus);
     expiries();
     last_day();
 }

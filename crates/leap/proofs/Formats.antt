@@ -3,8 +3,7 @@
 use mathlib.Core.Path.{_≡_, sym, _∙_}
 use mathlib.Core.Bool.{true}
 use lib.ListN.{length}
-use Rattle.schedule.specs.declared.Schedule.{Schedule}
-use Rattle.schedule.specs.Schedule.{roundedDown, leavesGap, wellFormed}
+use Rattle.schedule.specs.Schedule.{Schedule, roundedDown, leavesGap, wellFormed}
 use Rattle.schedule.proofs.Rounded.{rounded-well, extends-rounded}
 use Rattle.text.specs.Read.{readText}
 use Rattle.text.specs.Write.{textOf}

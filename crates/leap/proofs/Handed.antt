@@ -5,7 +5,7 @@ use mathlib.Core.List.{List}
 use Prim.Native.Nat.{ℕ, _≤_, _<_}
 use lib.ListN.{length}
 use borrow.Author.Tests.{lt-ltb, le-ltb}
-use Rattle.schedule.specs.declared.Schedule.{Schedule}
+use Rattle.schedule.specs.Schedule.{Schedule}
 use Rattle.schedule.specs.declared.Writing.{Writing}
 use Rattle.schedule.specs.Answers.{writing, written}
 use Rattle.stream.specs.Lines.{linesOf}

@@ -15,7 +15,7 @@ ghost use Rattle.compare.specs.Longer.{chosen, HandsBack};
 ghost use mathlib.Core.Path.{_≡_};
 ghost use lib.IntN.{pos};
 ghost use Rattle.clock.specs.Answers.{HandsValue, HandsUtc};
-ghost use Rattle.clock.specs.Many.{answerAt, answersAt, HandsMany, HandsManyUtc};
+ghost use Rattle.many.specs.Many.{answerAt, answersAt, HandsMany, HandsManyUtc};
 ghost use Rattle.clock.specs.Question.{dtaiOn, utcToTai, taiToUtc, utcToUts, utsToUtc};
 ghost use Rattle.schedule.specs.WordLayout.{meant};
 ghost use Rattle.schedule.specs.Answers.{HandsReading};
@@ -28,7 +28,7 @@ ghost use Rattle.leap.specs.Calls.{HandsBytes, HandsWriting, HandsReplay
 pub extern "C" fn leap_read_text(bytes: &[u8], out: &mut [u32; 514], place: &mut u64) -> u8
     ensures { λ n. ⌜ HandsReading (readText (now (bytes .entry))) n (now (out .exit)) (now (place .exit)) ⌝ }
 {
-    text::read_words(bytes, out, place)
+    text::read_text(bytes, out, place)
 }
 
 // Writes the compact text list of a schedule.
@@ -36,7 +36,7 @@ pub extern "C" fn leap_read_text(bytes: &[u8], out: &mut [u32; 514], place: &mut
 pub extern "C" fn leap_write_text(words: &[u32; 514], out: &mut [u8], count: &mut u64) -> u8
     ensures { λ n. ⌜ HandsWriting (meant (now (words .entry))) (textOf (meant (now (words .entry)))) (now (out .entry)) n (now (count .exit)) (now (out .exit)) ⌝ }
 {
-    let w = text::write_text(schedule::of_words(words), out);
+    let w = text::write_text(words, out);
     *count = w.count as u64;
     w.number
 }
@@ -46,7 +46,7 @@ pub extern "C" fn leap_write_text(words: &[u32; 514], out: &mut [u8], count: &mu
 pub extern "C" fn leap_read_nybbles(bytes: &[u8], out: &mut [u32; 514], place: &mut u64) -> u8
     ensures { λ n. ⌜ HandsReading (readNybbles (now (bytes .entry))) n (now (out .exit)) (now (place .exit)) ⌝ }
 {
-    nybbles::read_words(bytes, out, place)
+    nybbles::read_nybbles(bytes, out, place)
 }
 
 // Writes the nybble list of a schedule.
@@ -54,7 +54,7 @@ pub extern "C" fn leap_read_nybbles(bytes: &[u8], out: &mut [u32; 514], place: &
 pub extern "C" fn leap_write_nybbles(words: &[u32; 514], out: &mut [u8], count: &mut u64) -> u8
     ensures { λ n. ⌜ HandsWriting (meant (now (words .entry))) (nybblesOf (meant (now (words .entry)))) (now (out .entry)) n (now (count .exit)) (now (out .exit)) ⌝ }
 {
-    let w = nybbles::write_nybbles(schedule::of_words(words), out);
+    let w = nybbles::write_nybbles(words, out);
     *count = w.count as u64;
     w.number
 }
@@ -104,9 +104,7 @@ pub extern "C" fn leap_extends(longer: &[u32; 514], shorter: &[u32; 514], yes: &
         *yes = 0;
         return NOT_WELL_FORMED;
     }
-    let l = schedule::of_words(longer);
-    let s = schedule::of_words(shorter);
-    *yes = yes_of(schedule::extends(l, s));
+    *yes = yes_of(schedule::extends(longer, shorter));
     0
 }
 
@@ -115,7 +113,7 @@ pub extern "C" fn leap_extends(longer: &[u32; 514], shorter: &[u32; 514], yes: &
 pub extern "C" fn leap_dtai(words: &[u32; 514], mjd: u64, dtai: &mut i32) -> u8
     ensures { λ n. ⌜ HandsValue (pos 0) (dtaiOn (meant (now (words .entry))) mjd) n (now (dtai .exit)) ⌝ }
 {
-    let a = clock::words::dtai(words, mjd);
+    let a = questions::dtai(words, mjd);
     *dtai = answers::dtai_value(a);
     answers::dtai_number(a)
 }
@@ -125,7 +123,7 @@ pub extern "C" fn leap_dtai(words: &[u32; 514], mjd: u64, dtai: &mut i32) -> u8
 pub extern "C" fn leap_utc_to_tai(words: &[u32; 514], mjd: u64, micros: u64, tai: &mut u64) -> u8
     ensures { λ n. ⌜ HandsValue 0 (utcToTai (meant (now (words .entry))) mjd micros) n (now (tai .exit)) ⌝ }
 {
-    let a = clock::words::utc_to_tai(words, mjd, UtcMicros(micros));
+    let a = questions::utc_to_tai(words, mjd, UtcMicros(micros));
     *tai = answers::tai_value(a);
     answers::tai_number(a)
 }
@@ -140,7 +138,7 @@ pub extern "C" fn leap_tai_to_utc(
 ) -> u8
     ensures { λ n. ⌜ HandsUtc (taiToUtc (meant (now (words .entry))) tai) n (now (mjd .exit)) (now (micros .exit)) ⌝ }
 {
-    let a = clock::words::tai_to_utc(words, TaiMicros(tai));
+    let a = questions::tai_to_utc(words, TaiMicros(tai));
     *mjd = answers::utc_day(a);
     *micros = answers::utc_micros(a);
     answers::utc_number(a)
@@ -151,7 +149,7 @@ pub extern "C" fn leap_tai_to_utc(
 pub extern "C" fn leap_utc_to_uts(words: &[u32; 514], mjd: u64, micros: u64, nanos: &mut u64) -> u8
     ensures { λ n. ⌜ HandsValue 0 (utcToUts (meant (now (words .entry))) mjd micros) n (now (nanos .exit)) ⌝ }
 {
-    let a = clock::words::utc_to_uts(words, mjd, UtcMicros(micros));
+    let a = questions::utc_to_uts(words, mjd, UtcMicros(micros));
     *nanos = answers::uts_value(a);
     answers::uts_number(a)
 }
@@ -161,7 +159,7 @@ pub extern "C" fn leap_utc_to_uts(words: &[u32; 514], mjd: u64, micros: u64, nan
 pub extern "C" fn leap_uts_to_utc(words: &[u32; 514], mjd: u64, nanos: u64, micros: &mut u64) -> u8
     ensures { λ n. ⌜ HandsValue 0 (utsToUtc (meant (now (words .entry))) mjd nanos) n (now (micros .exit)) ⌝ }
 {
-    let a = clock::words::uts_to_utc(words, mjd, UtsNanos(nanos));
+    let a = questions::uts_to_utc(words, mjd, UtsNanos(nanos));
     *micros = answers::micros_value(a);
     answers::micros_number(a)
 }
@@ -176,7 +174,7 @@ pub extern "C" fn leap_dtai_many(
 ) -> u64
     ensures { λ n. ⌜ HandsMany (pos 0) (answerAt (dtaiOn (meant (now (words .entry)))) (now (mjd .entry))) (min (length (now (mjd .entry))) (min (length (now (numbers .entry))) (length (now (dtai .entry))))) (now (numbers .entry)) (now (dtai .entry)) n (now (numbers .exit)) (now (dtai .exit)) ⌝ }
 {
-    clock::many::dtai(words, mjd, numbers, dtai)
+    many::dtai(words, mjd, numbers, dtai)
 }
 
 // UTC to TAI for many instants.
@@ -190,7 +188,7 @@ pub extern "C" fn leap_utc_to_tai_many(
 ) -> u64
     ensures { λ n. ⌜ HandsMany 0 (answersAt (utcToTai (meant (now (words .entry)))) (now (mjd .entry)) (now (micros .entry))) (min (min (length (now (mjd .entry))) (length (now (micros .entry)))) (min (length (now (numbers .entry))) (length (now (tai .entry))))) (now (numbers .entry)) (now (tai .entry)) n (now (numbers .exit)) (now (tai .exit)) ⌝ }
 {
-    clock::many::utc_to_tai(words, mjd, micros, numbers, tai)
+    many::utc_to_tai(words, mjd, micros, numbers, tai)
 }
 
 // TAI to UTC for many.
@@ -204,7 +202,7 @@ pub extern "C" fn leap_tai_to_utc_many(
 ) -> u64
     ensures { λ n. ⌜ HandsManyUtc (answerAt (taiToUtc (meant (now (words .entry)))) (now (tai .entry))) (min (min (length (now (tai .entry))) (length (now (numbers .entry)))) (min (length (now (mjd .entry))) (length (now (micros .entry))))) (now (numbers .entry)) (now (mjd .entry)) (now (micros .entry)) n (now (numbers .exit)) (now (mjd .exit)) (now (micros .exit)) ⌝ }
 {
-    clock::many::tai_to_utc(words, tai, numbers, mjd, micros)
+    many::tai_to_utc(words, tai, numbers, mjd, micros)
 }
 
 // UTC to smoothed time for many instants.
@@ -218,7 +216,7 @@ pub extern "C" fn leap_utc_to_uts_many(
 ) -> u64
     ensures { λ n. ⌜ HandsMany 0 (answersAt (utcToUts (meant (now (words .entry)))) (now (mjd .entry)) (now (micros .entry))) (min (min (length (now (mjd .entry))) (length (now (micros .entry)))) (min (length (now (numbers .entry))) (length (now (nanos .entry))))) (now (numbers .entry)) (now (nanos .entry)) n (now (numbers .exit)) (now (nanos .exit)) ⌝ }
 {
-    clock::many::utc_to_uts(words, mjd, micros, numbers, nanos)
+    many::utc_to_uts(words, mjd, micros, numbers, nanos)
 }
 
 // Smoothed time to UTC for many instants.
@@ -232,7 +230,7 @@ pub extern "C" fn leap_uts_to_utc_many(
 ) -> u64
     ensures { λ n. ⌜ HandsMany 0 (answersAt (utsToUtc (meant (now (words .entry)))) (now (mjd .entry)) (now (nanos .entry))) (min (min (length (now (mjd .entry))) (length (now (nanos .entry)))) (min (length (now (numbers .entry))) (length (now (micros .entry))))) (now (numbers .entry)) (now (micros .entry)) n (now (numbers .exit)) (now (micros .exit)) ⌝ }
 {
-    clock::many::uts_to_utc(words, mjd, nanos, numbers, micros)
+    many::uts_to_utc(words, mjd, nanos, numbers, micros)
 }
 
 // Replays the complete lines of a piece of a trace, from a current and a stored list.

@@ -19,7 +19,7 @@ use Rattle.calendar.proofs.Laws.{month-most}
 use Rattle.nybbles.specs.Codes.{npExpiry}
 use Rattle.nybbles.specs.Write.{npOf, gapCodes, codesFrom, plainCodes}
 use Rattle.nybbles.specs.Private.{codeOf, Stores, Holds}
-use Rattle.nybbles.proofs.Held.{sets-append}
+use Rattle.schedule.proofs.Stores.{sets-append}
 use Rattle.nybbles.proofs.Stored.{list-short}
 
 pub np-small : (k : Sign) → npOf k < 4

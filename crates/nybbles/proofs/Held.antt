@@ -2,9 +2,8 @@
 -- Assumes nothing.
 use mathlib.Core.Path.{_≡_, refl, _∙_}
 use mathlib.Core.Bool.{true, false}
-use mathlib.Core.List.{List, [], _∷_, _++_, map}
+use mathlib.Core.List.{List, [], _∷_, map}
 use Prim.Native.Nat.{ℕ, zero, suc, _+_, _*_, _/_, _%_, _≤_, _<_}
-use native.Mathlib.Nat.{add-zero, add-suc, suc-add}
 use native.Mathlib.Numerals.{add-one}
 use native.Mathlib.Omega.{arith}
 use lib.Dec.{ltb}
@@ -58,8 +57,3 @@ held-next codes n i full h =
     let l : length (take n cs) ≡ n = length-take-le n cs (omega arith) in
     let j : i < length (take n cs) = omega arith in
     rw (add-one, drop-cons (take n cs) i (codeOf 0) j, getD-take n cs i (codeOf 0) h, List·getD-map codeOf codes i 0)
-
--- a run of stores in two parts
-pub sets-append : {A : Type 0} (xs l : List A) (i : ℕ) (ys : List A) → sets l i (xs ++ ys) ≡ sets (sets l i xs) (i + length xs) ys
-sets-append [] l i ys = rw add-zero
-sets-append (x ∷ xs) l i ys = sets-append xs _ (suc i) ys ∙ rw (suc-add, add-suc)

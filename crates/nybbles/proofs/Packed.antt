@@ -11,7 +11,8 @@ use Rattle.schedule.specs.Schedule.{Schedule}
 use Rattle.nybbles.specs.Codes.{nybbles}
 use Rattle.nybbles.specs.Write.{pack, spelling, nybblesOf}
 use Rattle.nybbles.specs.Private.{codeOf, Holds}
-use Rattle.nybbles.proofs.Held.{held-one, held-two, held-few, sets-append}
+use Rattle.schedule.proofs.Stores.{sets-append}
+use Rattle.nybbles.proofs.Held.{held-one, held-two, held-few}
 use Rattle.nybbles.proofs.Codes.{All, more, count, upper, lower}
 use Rattle.nybbles.proofs.Evened.{flat-next, flat-length, flat-end}
 use Rattle.nybbles.proofs.Division.{IsNybble, spelling-all, flat-all, spelling-even, nybble-count}

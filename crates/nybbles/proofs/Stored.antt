@@ -17,7 +17,8 @@ use Rattle.schedule.proofs.Rounded.{gapsTo, first-to, later-to}
 use Rattle.nybbles.specs.Codes.{npNone}
 use Rattle.nybbles.specs.Write.{npOf, monthsCode, sixesCode, sixteen, sixesIn, sixes, years, gapCodes, codesFrom}
 use Rattle.nybbles.specs.Private.{codeOf, Stores}
-use Rattle.nybbles.proofs.Held.{held-set, sets-append}
+use Rattle.schedule.proofs.Stores.{sets-append}
+use Rattle.nybbles.proofs.Held.{held-set}
 
 -- as many codes as there are sixes are enough, and more change nothing
 enough : (most other np k : ℕ) → 0 < k → k ≤ most → k ≤ other → sixesIn most np k ≡ sixesIn other np k

@@ -22,7 +22,7 @@ use Rattle.replay.specs.declared.meaning.Said.{Said}
 use Rattle.replay.specs.declared.meaning.Said.the-variants.{Use, Store, Reset, Ask, Other}
 use Rattle.replay.specs.Trace.{question, meaning}
 use Rattle.replay.specs.Replay.{State, refuse, onDay, reply, next, shown, maxPrinted, unended}
-use Rattle.replay.specs.Inner.{saidBy, ofUts, ListUsed, LineReplayed}
+use Rattle.replay.specs.Private.{saidBy, ofUts, ListUsed, LineReplayed}
 use Rattle.replay.proofs.Room.{at-most}
 use Rattle.replay.proofs.Saying.{said-is, uses}
 

@@ -10,7 +10,7 @@ use Rattle.format.specs.Lines.{newline, spaceByte, twoNumbers}
 use Rattle.format.specs.Refusal.{refusal}
 use Rattle.format.proofs.Cases.{by-bool}
 use Rattle.format.proofs.Digits.{decimal-short}
-use Rattle.schedule.specs.declared.Schedule.{Schedule}
+use Rattle.schedule.specs.Schedule.{Schedule}
 use Rattle.schedule.specs.WordLayout.{meant}
 use Rattle.text.specs.Read.{readText}
 use Rattle.text.proofs.Numbers.{at-most-six}

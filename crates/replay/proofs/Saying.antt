@@ -18,7 +18,7 @@ use Rattle.format.specs.Lines.{spaceByte}
 use Rattle.replay.specs.declared.meaning.Said.{Said}
 use Rattle.replay.specs.declared.meaning.Said.the-variants.{Use, Store, Reset, Ask, Other}
 use Rattle.replay.specs.Trace.{Line, list, store, reset, question, other, letterL, letterS, letterZ, letterQ, maxLine, shortNumber, asks, questionOf, alone, followed, lineOf, meaning}
-use Rattle.replay.specs.Inner.{saidBy}
+use Rattle.replay.specs.Private.{saidBy}
 use Rattle.replay.proofs.Says.{given-short, no-space}
 
 -- ---- two numbers

@@ -8,8 +8,7 @@ use native.Mathlib.Omega.{arith}
 use lib.Dec.{eqb}
 use lib.ListN.{getD}
 use borrow.Author.Tests.{eqb-true}
-use Rattle.schedule.specs.declared.Schedule.{Schedule}
-use Rattle.schedule.specs.Schedule.{wellFormed, blankSchedule}
+use Rattle.schedule.specs.Schedule.{Schedule, wellFormed, blankSchedule}
 use Rattle.schedule.specs.WordLayout.{meant, wordsOf}
 use Rattle.schedule.proofs.Gaps.{blank-refused}
 use Rattle.schedule.proofs.Stand.{blank-stands, words-stand}

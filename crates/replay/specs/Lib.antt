@@ -2,4 +2,4 @@ pub mod Trace
 pub mod Replay
 pub mod Runs
 pub mod Times
-pub mod Inner
+pub mod Private

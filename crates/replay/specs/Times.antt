@@ -5,8 +5,7 @@ use mathlib.Core.Path.{_≡_}
 use mathlib.Core.Bool.{true}
 use mathlib.Core.List.{List, [], _∷_, _++_}
 use mathlib.Core.Logic.{_⊎_}
-use Rattle.schedule.specs.declared.Schedule.{Schedule}
-use Rattle.schedule.specs.Schedule.{wellFormed}
+use Rattle.schedule.specs.Schedule.{Schedule, wellFormed}
 use Rattle.schedule.specs.Extends.{Extends}
 use Rattle.schedule.specs.WordLayout.{meant}
 use Rattle.text.specs.Read.{readText}

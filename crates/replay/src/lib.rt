@@ -7,7 +7,7 @@ ghost use Rattle.stream.specs.Lines.{linesOf};
 ghost use Rattle.stream.specs.Stream.{answered, LinesAnswered};
 ghost use Rattle.replay.specs.Trace.{meaning};
 ghost use Rattle.replay.specs.Replay.{time, refuse, shown, unended, replaying};
-ghost use Rattle.replay.specs.Inner.{ofUts, ListUsed, LineReplayed};
+ghost use Rattle.replay.specs.Private.{ofUts, ListUsed, LineReplayed};
 
 mod meaning; // meaning.rt: what a line says
 
@@ -60,7 +60,7 @@ fn use_list(list: &[u8], current: &mut [u32; 514], out: &mut [u8], at: usize) ->
 {
     let mut words = [0u32; 514];
     let mut place: u64 = 0;
-    let number = text::read_words(list, &mut words, &mut place);
+    let number = text::read_text(list, &mut words, &mut place);
     if number != 0 {
         return put_refused(out, at, number);
     }
@@ -89,7 +89,7 @@ fn replay_line(
             *current = *stored;
             at
         }
-        Said::Ask(day, t) => put_smoothed(out, at, day, clock::words::utc_to_uts(current, day, t)),
+        Said::Ask(day, t) => put_smoothed(out, at, day, questions::utc_to_uts(current, day, t)),
         Said::Other => put_refused(out, at, NO_LINE),
     }
 }

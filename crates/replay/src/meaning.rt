@@ -3,7 +3,7 @@ ghost use mathlib.Core.Path.{_≡_};
 ghost use Rattle.format.specs.Parts.{parts};
 ghost use Rattle.format.specs.Lines.{spaceByte};
 ghost use Rattle.replay.specs.Trace.{shortNumber, asks, questionOf, alone, followed, lineOf, meaning};
-ghost use Rattle.replay.specs.Inner.{saidBy};
+ghost use Rattle.replay.specs.Private.{saidBy};
 use clock::UtcMicros;
 use format::decimal::Number;
 use format::decimal::read_decimal;

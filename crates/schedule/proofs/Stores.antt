@@ -8,6 +8,6 @@ use lib.ListN.{length}
 use lib.Seq.{sets}
 
 -- a run of stores in two parts
-pub sets-append : (xs l : List ℕ) (i : ℕ) (ys : List ℕ) → sets l i (xs ++ ys) ≡ sets (sets l i xs) (i + length xs) ys
+pub sets-append : {A : Type 0} (xs l : List A) (i : ℕ) (ys : List A) → sets l i (xs ++ ys) ≡ sets (sets l i xs) (i + length xs) ys
 sets-append [] l i ys = rw add-zero
 sets-append (x ∷ xs) l i ys = sets-append xs _ (suc i) ys ∙ rw (suc-add, add-suc)

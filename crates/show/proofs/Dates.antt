@@ -9,8 +9,7 @@ use Rattle.format.specs.Decimal.{digitsIn, decimal, pair, withSign}
 use Rattle.format.specs.Lines.{between}
 use Rattle.calendar.specs.Calendar.{InMonth, daysInMonth, monthStart, monthOf}
 use Rattle.calendar.proofs.Laws.{start-next, start-last, late-month, is-month}
-use Rattle.schedule.specs.declared.Schedule.{Schedule}
-use Rattle.schedule.specs.Schedule.{leapsOf, wellFormed}
+use Rattle.schedule.specs.Schedule.{Schedule, wellFormed}
 use Rattle.clock.specs.Days.{dtai}
 use Rattle.show.specs.Show.{date, dateOf, stretch, stretches, shown}
 
@@ -31,12 +30,12 @@ pub last-date : dateOf 114_366 ≡ decimal 2172 ++ (45 ∷ pair 1 ++ (45 ∷ pai
 unfolding date
 last-date = by-month 114_366 2400 1 (late-month (omega arith)) (omega (arith, start-last))
 
-ten : (s : Schedule) → leapsOf s ≡ [] → withSign (dtai s 41_317) ≡ ascii "+10"
+ten : (s : Schedule) → s .leaps ≡ [] → withSign (dtai s 41_317) ≡ ascii "+10"
 unfolding dtai decimal digitsIn
 ten s e = rw e
 
 -- a list without leaps is shown as its one stretch, from 1972-01-01 to the day before its expiry, and its expiry
-pub shown-alone : (s : Schedule) → wellFormed s ≡ true → leapsOf s ≡ []
+pub shown-alone : (s : Schedule) → wellFormed s ≡ true → s .leaps ≡ []
     → shown true s ≡ dateOf 41_317 ++ (32 ∷ dateOf (s .expiry - 1) ++ (32 ∷ ascii "+10")) ++ (10 ∷ dateOf (s .expiry) ++ ascii " unknown")
 unfolding shown stretches stretch between
 shown-alone s w e = rw (w, e, ten s e)

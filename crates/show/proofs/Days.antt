@@ -10,9 +10,7 @@ use Rattle.calendar.specs.Calendar.{firstDay, monthStart}
 use Rattle.calendar.proofs.Laws.{start-zero, start-from, start-le, start-lt}
 use Rattle.schedule.specs.declared.Sign.{Sign}
 use Rattle.schedule.specs.declared.Sign.the-variants.{Positive, Negative}
-use Rattle.schedule.specs.declared.Leap.{Leap}
-use Rattle.schedule.specs.declared.Schedule.{Schedule}
-use Rattle.schedule.specs.Schedule.{leapsOf, gapsFit, wellFormed}
+use Rattle.schedule.specs.Schedule.{Leap, Schedule, gapsFit, wellFormed}
 use Rattle.schedule.proofs.Gaps.{fits-lt, first, later, before-end, parts}
 use Rattle.clock.specs.Days.{dtai}
 use Rattle.clock.specs.Private.{tally}
@@ -72,14 +70,14 @@ module _ (s : Schedule) (w : wellFormed s ≡ true) where
   known : (day : ℕ) → firstDay ≤ day → day < s .expiry → dtaiOn s day ≡ given (dtai s day)
   known day a b = pass notWellFormed w ∙ pass before1972 (le-leb firstDay day a) ∙ pass notKnown (le-leb day (lastDay s) (omega arith))
 
-  same : (done rest : List Leap) (from to : ℕ) → leapsOf s ≡ done ++ rest → Until from done → to ≤ s .expiry
+  same : (done rest : List Leap) (from to : ℕ) → s .leaps ≡ done ++ rest → Until from done → to ≤ s .expiry
       → ((sign : Sign) (day : ℕ) → day < to → tally sign rest day ≡ 0) → monthStart from < to → SameDtai s (monthStart from) to
   same done rest from to e u h none f day a b =
-      let kept : (sign : Sign) → tally sign (leapsOf s) day ≡ tally sign (leapsOf s) (monthStart from)
+      let kept : (sign : Sign) → tally sign (s .leaps) day ≡ tally sign (s .leaps) (monthStart from)
       = λ sign. rw e (stays sign done rest from day u a (none sign day b) (none sign (monthStart from) (omega arith))) in
       known day (omega (arith, start-from from)) (omega arith) ∙ ap given (rw (dtai-tallied s day, dtai-tallied s (monthStart from), kept Positive, kept Negative))
 
-  go : (done ls : List Leap) (from : ℕ) → leapsOf s ≡ done ++ ls → Until from done → gapsFit from ls (s .expiry) ≡ true → EachSame s (monthStart from) ls
+  go : (done ls : List Leap) (from : ℕ) → s .leaps ≡ done ++ ls → Until from done → gapsFit from ls (s .expiry) ≡ true → EachSame s (monthStart from) ls
   go done [] from e u g = same done [] from (s .expiry) e u (omega arith) (λ sign day h. refl) (before-end [] from (s .expiry) g)
   go done (l ∷ ls) from e u g =
       let m = l .month in
@@ -90,11 +88,11 @@ module _ (s : Schedule) (w : wellFormed s ≡ true) where
       )
 
   -- every day of each stretch has the DTAI that is shown for it
-  pub every-day : EachSame s firstDay (leapsOf s)
-  every-day = rw start-zero at (go [] (leapsOf s) 0 refl tt (parts s w .gaps))
+  pub every-day : EachSame s firstDay (s .leaps)
+  every-day = rw start-zero at (go [] (s .leaps) 0 refl tt (parts s w .gaps))
 
   -- and from the day on which DTAI is shown to be unknown there is none
   pub then-unknown : (day : ℕ) → s .expiry ≤ day → dtaiOn s day ≡ refused notKnown
   then-unknown day h =
-      let b = before-end (leapsOf s) 0 (s .expiry) (parts s w .gaps) in
+      let b = before-end (s .leaps) 0 (s .expiry) (parts s w .gaps) in
       pass notWellFormed w ∙ pass before1972 (le-leb firstDay day (omega (arith, start-zero))) ∙ rw (lt-leb day (lastDay s) (omega (arith, start-zero)))

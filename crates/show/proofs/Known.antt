@@ -10,8 +10,7 @@ use borrow.Author.Tests.{le-leb}
 use Rattle.refusals.specs.Refusals.{before1972, notKnown, notWellFormed}
 use Rattle.calendar.specs.Calendar.{firstDay}
 use Rattle.schedule.specs.declared.Sign.the-variants.{Positive, Negative}
-use Rattle.schedule.specs.declared.Schedule.{Schedule}
-use Rattle.schedule.specs.Schedule.{leapsOf, wellFormed}
+use Rattle.schedule.specs.Schedule.{Schedule, wellFormed}
 use Rattle.clock.specs.declared.DtaiAnswer.{DtaiAnswer}
 use Rattle.clock.specs.declared.DtaiAnswer.the-variants.{Given}
 use Rattle.clock.specs.Days.{firstDtai, dtai}
@@ -34,5 +33,5 @@ module _ (s : Schedule) (w : wellFormed s ≡ true) where
   -- it stays what it is where it is stored
   pub dtai-kept : (day : ℕ) → toZ w32 (ofZ w32 (dtai s day)) ≡ dtai s day
   dtai-kept day =
-      rw (dtai-tallied s day) (minus-kept (firstDtai + tally Positive (leapsOf s) day) (tally Negative (leapsOf s) day)
+      rw (dtai-tallied s day) (minus-kept (firstDtai + tally Positive (s .leaps) day) (tally Negative (s .leaps) day)
       (omega (arith, tally-few s w Positive day)) (omega (arith, tally-few s w Negative day)))

@@ -1,2 +1,2 @@
 pub mod Show
-pub mod Inner
+pub mod Private

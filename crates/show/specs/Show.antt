@@ -7,9 +7,7 @@ use Rattle.refusals.specs.Refusals.{notWellFormed}
 use Rattle.format.specs.Ascii.{ascii, minusByte}
 use Rattle.format.specs.Decimal.{decimal, pair, withSign}
 use Rattle.calendar.specs.Calendar.{firstDay, yearOf, monthStart, monthOf}
-use Rattle.schedule.specs.declared.Leap.{Leap}
-use Rattle.schedule.specs.declared.Schedule.{Schedule}
-use Rattle.schedule.specs.Schedule.{leapsOf, wellFormed}
+use Rattle.schedule.specs.Schedule.{Leap, Schedule, wellFormed}
 use Rattle.clock.specs.Days.{dtai}
 use Rattle.format.specs.Lines.{spaceByte, between}
 use Rattle.format.specs.Refusal.{refusal}
@@ -35,5 +33,5 @@ stretches lines s from (l ∷ ls) = stretch s from (monthStart (l .month)) ++ (b
 unfoldable pub shown : Bool → Schedule → List ℕ
 shown lines s =
     cond (wellFormed s)
-    (stretches lines s firstDay (leapsOf s) ++ (between lines ++ (dateOf (s .expiry) ++ ascii " unknown")))
+    (stretches lines s firstDay (s .leaps) ++ (between lines ++ (dateOf (s .expiry) ++ ascii " unknown")))
     (refusal notWellFormed)

@@ -5,10 +5,11 @@ ghost use mathlib.Core.List.{[]};
 ghost use Prim.Native.Nat.{_≤_, _<_};
 ghost use Rattle.format.specs.Output.{PutsUpTo};
 ghost use Rattle.calendar.specs.Calendar.{firstDay, endDay};
-ghost use Rattle.schedule.specs.Schedule.{leapsOf, wellFormed};
+ghost use Rattle.schedule.specs.Schedule.{wellFormed};
+ghost use Rattle.schedule.specs.WordLayout.{meant};
 ghost use Rattle.show.specs.Show.{date, dateOf, stretch, shown};
 ghost use Rattle.clock.specs.Days.{dtai};
-ghost use Rattle.show.specs.Inner.{shownFrom};
+ghost use Rattle.show.specs.Private.{shownFrom};
 use clock::DtaiAnswer;
 use format::decimal::put_decimal;
 use format::decimal::put_pair;
@@ -18,8 +19,6 @@ use format::output::put;
 use format::output::put_all;
 use format::refusal::put_refusal;
 use refusals::NOT_WELL_FORMED;
-use schedule::Schedule;
-use schedule::is_well_formed;
 
 // Puts a day of a month as a date.
 fn put_date(out: &mut [u8], at: usize, month: u16, day: u64) -> usize
@@ -43,11 +42,11 @@ fn put_day(out: &mut [u8], at: usize, day: u64) -> usize
 }
 
 // DTAI on a day that is known.
-fn dtai_from(s: Schedule, day: u64) -> i32
-    requires { ⌜ (wellFormed s ≡ true) × (firstDay ≤ day) × (day < s .expiry) ⌝ }
-    ensures { λ r. ⌜ r ≡ dtai s day ⌝ }
+fn dtai_from(words: &[u32; 514], day: u64) -> i32
+    requires { ⌜ (wellFormed (meant (now words)) ≡ true) × (firstDay ≤ day) × (day < meant (now words) .expiry) ⌝ }
+    ensures { λ r. ⌜ r ≡ dtai (meant (now (words .entry))) day ⌝ }
 {
-    let a = clock::dtai(s, day);
+    let a = questions::dtai(words, day);
     match a {
         DtaiAnswer::Given(z) => z,
         DtaiAnswer::Refused(_) => 0,
@@ -55,11 +54,11 @@ fn dtai_from(s: Schedule, day: u64) -> i32
 }
 
 // Puts a stretch, from a day to the day before another.
-fn put_stretch(out: &mut [u8], at: usize, s: Schedule, from: u64, to: u64) -> usize
-    requires { ⌜ (wellFormed s ≡ true) × (firstDay ≤ from) × (from < to) × (to ≤ s .expiry) ⌝ }
-    ensures { λ r. ⌜ PutsUpTo 75 (now (out .entry)) (now (out .exit)) at r (stretch s from to) ⌝ }
+fn put_stretch(out: &mut [u8], at: usize, words: &[u32; 514], from: u64, to: u64) -> usize
+    requires { ⌜ (wellFormed (meant (now words)) ≡ true) × (firstDay ≤ from) × (from < to) × (to ≤ meant (now words) .expiry) ⌝ }
+    ensures { λ r. ⌜ PutsUpTo 75 (now (out .entry)) (now (out .exit)) at r (stretch (meant (now (words .entry))) from to) ⌝ }
 {
-    let z = dtai_from(s, from);
+    let z = dtai_from(words, from);
     let a = put_day(out, at, from);
     let b = put(out, a, b' ');
     let c = put_day(out, b, to - 1);
@@ -68,42 +67,42 @@ fn put_stretch(out: &mut [u8], at: usize, s: Schedule, from: u64, to: u64) -> us
 }
 
 // Puts the last stretch, and then the day from which DTAI is unknown.
-fn put_last(out: &mut [u8], at: usize, lines: bool, s: Schedule, from: u64) -> usize
-    requires { ⌜ (wellFormed s ≡ true) × (firstDay ≤ from) × (from < s .expiry) ⌝ }
-    ensures { λ r. ⌜ PutsUpTo 111 (now (out .entry)) (now (out .exit)) at r (shownFrom lines s from []) ⌝ }
+fn put_last(out: &mut [u8], at: usize, lines: bool, words: &[u32; 514], from: u64) -> usize
+    requires { ⌜ (wellFormed (meant (now words)) ≡ true) × (firstDay ≤ from) × (from < meant (now words) .expiry) ⌝ }
+    ensures { λ r. ⌜ PutsUpTo 111 (now (out .entry)) (now (out .exit)) at r (shownFrom lines (meant (now (words .entry))) from []) ⌝ }
 {
-    let expiry = s.expiry as u64;
-    let a = put_stretch(out, at, s, from, expiry);
+    let expiry = schedule::expiry_of(words) as u64;
+    let a = put_stretch(out, at, words, from, expiry);
     let b = put_between(out, a, lines);
     let c = put_day(out, b, expiry);
     put_all(out, c, b" unknown")
 }
 
-// Puts the stretches of a schedule, and then the day from which DTAI is unknown.
-fn put_stretches(out: &mut [u8], at: usize, lines: bool, s: Schedule) -> usize
-    requires { ⌜ wellFormed s ≡ true ⌝ }
-    ensures { λ r. ⌜ PutsUpTo 20000 (now (out .entry)) (now (out .exit)) at r (shownFrom lines s firstDay (leapsOf s)) ⌝ }
+// Puts the stretches of a list, and then the day from which DTAI is unknown.
+fn put_stretches(out: &mut [u8], at: usize, lines: bool, words: &[u32; 514]) -> usize
+    requires { ⌜ wellFormed (meant (now words)) ≡ true ⌝ }
+    ensures { λ r. ⌜ PutsUpTo 20000 (now (out .entry)) (now (out .exit)) at r (shownFrom lines (meant (now (words .entry))) firstDay (meant (now (words .entry)) .leaps)) ⌝ }
 {
-    let count = s.count;
+    let count = schedule::count_of(words);
     let mut next = at;
     let mut from: u64 = calendar::FIRST_DAY;
     let mut i: usize = 0;
     while i < count {
-        let start = calendar::first_day(s.leaps[i].month);
-        next = put_stretch(out, next, s, from, start);
+        let start = calendar::month_start(schedule::month_at(words, i));
+        next = put_stretch(out, next, words, from, start);
         next = put_between(out, next, lines);
         from = start;
         i += 1;
     }
-    put_last(out, next, lines, s, from)
+    put_last(out, next, lines, words, from)
 }
 
 // Puts a list as its stretches of constant DTAI, LF between them or `; `; refusal 11 where it is not well formed.
-pub fn put_shown(out: &mut [u8], at: usize, lines: bool, s: Schedule) -> usize
-    ensures { λ r. ⌜ PutsUpTo 20000 (now (out .entry)) (now (out .exit)) at r (shown lines s) ⌝ }
+pub fn put_shown(out: &mut [u8], at: usize, lines: bool, words: &[u32; 514]) -> usize
+    ensures { λ r. ⌜ PutsUpTo 20000 (now (out .entry)) (now (out .exit)) at r (shown lines (meant (now (words .entry)))) ⌝ }
 {
-    if !is_well_formed(s) {
+    if !schedule::is_list(words) {
         return put_refusal(out, at, NOT_WELL_FORMED);
     }
-    put_stretches(out, at, lines, s)
+    put_stretches(out, at, lines, words)
 }

@@ -3,7 +3,7 @@ use borrow.Author.Needs.{needs}
 use native.Mathlib.Omega.{arith}
 use Rattle.format.proofs.Putting.{few}
 use mathlib.Core.Path.{sym, _∙_}
-use Rattle.command.specs.Inner.{withNumber}
+use Rattle.command.specs.Private.{withNumber}
 use Rattle.command.proofs.Others.{other-number, no-number}
 use Rattle.command.proofs.put_with_number.Statement.{statement}
 use Rattle.command.proofs.put_with_number.Tie as tie

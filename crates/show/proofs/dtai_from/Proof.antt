@@ -14,8 +14,8 @@ returns c =
     let pre = c .before .before .before .before .pre in
     let dtai = c .before .before .before .dtai in
     let a = c .before .a in
-    let is = dtai-given (args .s) (pre .0) (args .day) (pre .1) (pre .2) (dtai .ensures) in
-    rw (ap dtaiValue (sym (a .given .1) ∙ is)) (dtai-kept (args .s) (pre .0) _)
+    let is = dtai-given (meant (args .words .now)) (pre .0) (args .day) (pre .1) (pre .2) (dtai .ensures) in
+    rw (ap dtaiValue (sym (a .given .1) ∙ is)) (dtai-kept (meant (args .words .now)) (pre .0) _)
 
 returns-2 : tie.Need-returns-2
 returns-2 c =
@@ -23,7 +23,7 @@ returns-2 c =
     let pre = c .before .before .before .pre in
     let dtai = c .before .before .dtai in
     let enum-told = c .enum-told in
-    let is = dtai-given (args .s) (pre .0) (args .day) (pre .1) (pre .2) (dtai .ensures) in
+    let is = dtai-given (meant (args .words .now)) (pre .0) (args .day) (pre .1) (pre .2) (dtai .ensures) in
     let told = enum-told .given .1 in
     let never : _≡_ {A = ℕ} 0 1 = cc in
     absurd (omega arith)

@@ -5,15 +5,15 @@ use mathlib.Core.Path.{refl}
 use Rattle.schedule.proofs.Gaps.{parts}
 use Rattle.format.proofs.Putting.{up-to, text-put}
 use Rattle.show.specs.Show.{stretches}
-use Rattle.show.specs.Inner.{shownFrom}
+use Rattle.show.specs.Private.{shownFrom}
 use Rattle.show.proofs.put_last.Statement.{statement}
 use Rattle.show.proofs.put_last.Tie as tie
 
 put-day-requires : tie.Need-put-day-requires
 put-day-requires c κs =
-    let args = c .before .before .before .before .before .before .before .before .before .before .before .args in
-    let pre = c .before .before .before .before .before .before .before .before .before .before .before .pre in
-    (omega (arith, pre .1, pre .2), omega (arith, parts (args .s) (pre .0) .end))
+    let end = parts (meant (@args .words .now)) (@pre .0) .end in
+    let e = expiry-is (@args .words .now) (@pre .0) in
+    (omega (arith, @expiry-of .ensures, e, @pre .1, @pre .2), omega (arith, @expiry-of .ensures, e, end))
 
 returns : tie.Need-returns
 unfolding shownFrom stretches

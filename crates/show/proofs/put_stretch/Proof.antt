@@ -13,13 +13,13 @@ put-day-requires : tie.Need-put-day-requires
 put-day-requires c κs =
     let args = c .before .before .before .args in
     let pre = c .before .before .before .pre in
-    (pre .1, omega (arith, pre .2, pre .3, parts (args .s) (pre .0) .end))
+    (pre .1, omega (arith, pre .2, pre .3, parts (meant (args .words .now)) (pre .0) .end))
 
 put-day-requires-2 : tie.Need-put-day-requires-2
 put-day-requires-2 c κs =
     let args = c .before .before .before .before .before .before .before .before .before .before .before .args in
     let pre = c .before .before .before .before .before .before .before .before .before .before .before .pre in
-    (omega (arith, pre .1, pre .2), omega (arith, pre .3, parts (args .s) (pre .0) .end))
+    (omega (arith, pre .1, pre .2), omega (arith, pre .3, parts (meant (args .words .now)) (pre .0) .end))
 
 returns : tie.Need-returns
 unfolding stretch
@@ -35,7 +35,7 @@ returns c =
     let from-sign = up-to {most = 22} (a-byte (put2 .ensures)) (put-with-sign .ensures) refl (omega arith) in
     let from-last = up-to {most = 48} (put-day2 .ensures) from-sign refl (omega arith) in
     let from-space = up-to {most = 49} (a-byte (put .ensures)) from-last refl (omega arith) in
-    up-to (put-day .ensures) from-space (rw (dtai-from .ensures, dtai-kept (args .s) (pre .0) _)) (omega arith)
+    up-to (put-day .ensures) from-space (rw (dtai-from .ensures, dtai-kept (meant (args .words .now)) (pre .0) _)) (omega arith)
 
 pub put-stretch-spec : {M : Type 1} → statement M
 put-stretch-spec =

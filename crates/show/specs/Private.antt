@@ -1,12 +1,11 @@
--- What only the contracts of private functions say. No promise to a caller rests on reading this file.
+-- What only private functions are held to. No public contract and no promise speaks of these.
 -- Assumes nothing: these are definitions.
 use Prim.Native.Nat.{ℕ}
 use mathlib.Core.Bool.{Bool}
 use mathlib.Core.List.{List, _++_}
 use Rattle.format.specs.Ascii.{ascii}
-use Rattle.schedule.specs.declared.Leap.{Leap}
-use Rattle.schedule.specs.declared.Schedule.{Schedule}
 use Rattle.format.specs.Lines.{between}
+use Rattle.schedule.specs.Schedule.{Leap, Schedule}
 use Rattle.show.specs.Show.{dateOf, stretches}
 
 -- what is shown of a well-formed schedule from a day on, with the leaps after it: the stretches, and then the first day from which DTAI is unknown

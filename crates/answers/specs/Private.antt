@@ -1,5 +1,5 @@
--- What only the private functions of src/ are held to: the list that a field names, and the clock's answers as the code has them.
--- No promise to a caller rests on reading this file.
+-- What only private functions are held to: the list that a field names, and the answers to questions as the code has them. No public contract and no
+-- promise speaks of these.
 -- Assumes nothing: these are definitions.
 use Prim.Native.Nat.{ℕ}
 use mathlib.Core.Bool.{cond}
