@@ -10,8 +10,7 @@ use lib.Dec.{leb, ltb, eqb}
 use borrow.Author.Tests.{ltb-true, leb-true, eqb-true, lt-ltb, le-ltb, le-leb, lt-leb, eq-eqb, ne-eqb, not-true, not-false}
 use Rattle.refusals.specs.Refusals.{before1972, noInstant, notKnown, notWellFormed}
 use Rattle.calendar.specs.Calendar.{firstDay}
-use Rattle.schedule.specs.declared.Schedule.{Schedule}
-use Rattle.schedule.specs.Schedule.{wellFormed}
+use Rattle.schedule.specs.Schedule.{Schedule, wellFormed}
 use Rattle.schedule.proofs.Cases.{by-bool}
 use Rattle.clock.specs.Days.{longDay, shortDay, ending, dayLength}
 use Rattle.clock.specs.Smoothed.{nanosPerDay}

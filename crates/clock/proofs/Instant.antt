@@ -11,8 +11,7 @@ use borrow.Author.Tests.{ltb-true, leb-true, leb-false, lt-ltb, le-ltb, le-leb, 
 use Rattle.refusals.specs.Refusals.{before1972, notKnown, notWellFormed}
 use Rattle.calendar.specs.Calendar.{firstDay}
 use Rattle.calendar.proofs.Greatest.{Greatest, greatest-found, greatest-is}
-use Rattle.schedule.specs.declared.Schedule.{Schedule}
-use Rattle.schedule.specs.Schedule.{wellFormed}
+use Rattle.schedule.specs.Schedule.{Schedule, wellFormed}
 use Rattle.schedule.proofs.Cases.{by-bool}
 use Rattle.clock.specs.Days.{microsPerDay, ending, dayLength, tai}
 use Rattle.clock.specs.Known.{lastDay, fullyKnown, taiCutoff, knownTo, taiEnd, knownTai}

@@ -12,8 +12,7 @@ use Rattle.calendar.specs.Calendar.{monthStart, startsMonth}
 use Rattle.calendar.proofs.Laws.{start-lt, no-start}
 use Rattle.schedule.specs.declared.Sign.{Sign}
 use Rattle.schedule.specs.declared.Sign.the-variants.{Positive, Negative}
-use Rattle.schedule.specs.declared.Leap.{Leap}
-use Rattle.schedule.specs.Schedule.{endDay, isExpired, gapsFit}
+use Rattle.schedule.specs.Schedule.{Leap, endDay, isExpired, gapsFit}
 use Rattle.schedule.specs.Extends.{sameSign, below}
 use Rattle.schedule.proofs.Gaps.{fits-lt, first, later, before-end}
 use Rattle.schedule.proofs.WordLayout.{within}

@@ -16,9 +16,7 @@ use Rattle.calendar.specs.Calendar.{monthStart, InMonth}
 use Rattle.calendar.proofs.Laws.{start-zero, start-from, start-lt, start-le}
 use Rattle.schedule.specs.declared.Sign.{Sign}
 use Rattle.schedule.specs.declared.Sign.the-variants.{Positive, Negative}
-use Rattle.schedule.specs.declared.Leap.{Leap}
-use Rattle.schedule.specs.declared.Schedule.{Schedule}
-use Rattle.schedule.specs.Schedule.{noLeap, leapsOf, gapsFit, wellFormed}
+use Rattle.schedule.specs.Schedule.{Leap, Schedule, noLeap, gapsFit, wellFormed}
 use Rattle.schedule.specs.Extends.{sameSign}
 use Rattle.schedule.proofs.Gaps.{fits-lt, first, later, parts}
 use Rattle.clock.specs.declared.look.Survey.{Survey}
@@ -86,8 +84,8 @@ tally-placed sign (l ∷ ls) from expiry day (suc n) f p =
     (ap (λ m. count (sameSign sign (l .sign)) + m) (tally-placed sign ls (l .month) expiry day n (later from l ls expiry f) rest))
 
 -- the leaps in effect on a day tell its tallies
-pub tally-by : (s : Schedule) → wellFormed s ≡ true → {day n : ℕ} → Placed (leapsOf s) day n → (sign : Sign) → tally sign (leapsOf s) day ≡ ofSign sign (take n (leapsOf s))
-tally-by s w {day} {n} here sign = tally-placed sign (leapsOf s) 0 (s .expiry) day n (parts s w .gaps) here
+pub tally-by : (s : Schedule) → wellFormed s ≡ true → {day n : ℕ} → Placed (s .leaps) day n → (sign : Sign) → tally sign (s .leaps) day ≡ ofSign sign (take n (s .leaps))
+tally-by s w {day} {n} here sign = tally-placed sign (s .leaps) 0 (s .expiry) day n (parts s w .gaps) here
 
 -- ---- how the day ends
 
@@ -108,11 +106,11 @@ ending-at (l ∷ ls) from expiry f (suc n) h =
     rw (ne-eqb (monthStart (l .month)) (monthStart (leapMonth ls n)) (λ e. omega arith)) (ending-at ls (l .month) expiry rest n (le-of-suc-le-suc h))
 
 -- of the leaps on a day only the next one can take effect on the next day
-pub ending-same : (s : Schedule) → wellFormed s ≡ true → {day n : ℕ} → Placed (leapsOf s) day n
-    → (n < length (leapsOf s) → monthStart (leapMonth (leapsOf s) n) ≡ day + 1 → ⊥) → ending s day ≡ Ordinary
-ending-same s w {day} {n} p ne = ending-usual (leapsOf s) (day + 1) other
+pub ending-same : (s : Schedule) → wellFormed s ≡ true → {day n : ℕ} → Placed (s .leaps) day n
+    → (n < length (s .leaps) → monthStart (leapMonth (s .leaps) n) ≡ day + 1 → ⊥) → ending s day ≡ Ordinary
+ending-same s w {day} {n} p ne = ending-usual (s .leaps) (day + 1) other
   where
-    other : (i : ℕ) → i < length (leapsOf s) → monthStart (leapMonth (leapsOf s) i) ≢ day + 1
+    other : (i : ℕ) → i < length (s .leaps) → monthStart (leapMonth (s .leaps) i) ≢ day + 1
     other i h e =
         elim (decLt i n) [
           | yes l ↦ omega (arith, p .begun i l)
@@ -120,13 +118,13 @@ ending-same s w {day} {n} p ne = ending-usual (leapsOf s) (day + 1) other
               let o : n ≤ i = omega arith in
               ⊎-elim (λ (z : n ≡ i). ne (omega arith) (rw z e))
               (λ (k : n < i).
-              omega (arith, p .not-begun (omega arith), start-lt (in-order (leapsOf s) 0 (s .expiry) (parts s w .gaps) n i k h)))
+              omega (arith, p .not-begun (omega arith), start-lt (in-order (s .leaps) 0 (s .expiry) (parts s w .gaps) n i k h)))
               (eq-or-lt-of-le o)
         ]
 
-pub ending-next : (s : Schedule) → wellFormed s ≡ true → (day n : ℕ) → n < length (leapsOf s) → monthStart (leapMonth (leapsOf s) n) ≡ day + 1
-    → ending s day ≡ endingOf (getD (leapsOf s) n noLeap .sign)
-ending-next s w day n h e = rw (← e) (ending-at (leapsOf s) 0 (s .expiry) (parts s w .gaps) n h)
+pub ending-next : (s : Schedule) → wellFormed s ≡ true → (day n : ℕ) → n < length (s .leaps) → monthStart (leapMonth (s .leaps) n) ≡ day + 1
+    → ending s day ≡ endingOf (getD (s .leaps) n noLeap .sign)
+ending-next s w day n h e = rw (← e) (ending-at (s .leaps) 0 (s .expiry) (parts s w .gaps) n h)
 
 -- ---- by the month of the day
 
@@ -181,20 +179,20 @@ ahead-some h next sign e = record { some = λ l. e; none = λ l. absurd (omega a
 pub ahead-none : {ls : List Leap} {n : ℕ} → length ls ≤ n → (sign : Sign) → Ahead ls n 0 sign
 ahead-none h sign = record { some = λ l. absurd (omega arith); none = λ l. refl }
 
-module _ (s : Schedule) (w : wellFormed s ≡ true) (day month n down next : ℕ) (sign : Sign) (p : ByMonth (leapsOf s) month n) (l : Lowered (leapsOf s) n down)
-    (q : Ahead (leapsOf s) n next sign) (i : InMonth day month) where
-  here : Placed (leapsOf s) day n
+module _ (s : Schedule) (w : wellFormed s ≡ true) (day month n down next : ℕ) (sign : Sign) (p : ByMonth (s .leaps) month n) (l : Lowered (s .leaps) n down)
+    (q : Ahead (s .leaps) n next sign) (i : InMonth day month) where
+  here : Placed (s .leaps) day n
   here =
       record {
         room = p .room;
         begun = λ k h. omega (arith, i .from, start-le (p .by k h));
         not-begun = λ h.
-            let later : month + 1 ≤ leapMonth (leapsOf s) n = omega (arith, p .after h) in
+            let later : month + 1 ≤ leapMonth (s .leaps) n = omega (arith, p .after h) in
             omega (arith, i .before, start-le later);
       }
 
-  positives : ofSign Positive (take n (leapsOf s)) ≡ n - down
-  positives = omega (arith, both-signs (take n (leapsOf s)), length-take-le n (leapsOf s) (p .room), l .sum)
+  positives : ofSign Positive (take n (s .leaps)) ≡ n - down
+  positives = omega (arith, both-signs (take n (s .leaps)), length-take-le n (s .leaps) (p .room), l .sum)
 
   tallied-by : (v : Survey) → v .up ≡ n - down → v .down ≡ down → v .ending ≡ ending s day → TalliedOn s day v
   tallied-by v eu ed f =
@@ -204,17 +202,17 @@ module _ (s : Schedule) (w : wellFormed s ≡ true) (day month n down next : ℕ
   pub tallied-same : (monthStart next - 1 ≡ day → ⊥) → (v : Survey) → v .up ≡ n - down → v .down ≡ down → v .ending ≡ Ordinary → TalliedOn s day v
   tallied-same ne v eu ed f = tallied-by v eu ed (f ∙ sym (ending-same s w here other))
     where
-      other : n < length (leapsOf s) → monthStart (leapMonth (leapsOf s) n) ≡ day + 1 → ⊥
+      other : n < length (s .leaps) → monthStart (leapMonth (s .leaps) n) ≡ day + 1 → ⊥
       other h e = let k : monthStart next ≡ day + 1 = sym (ap (λ l. monthStart (l .month)) (q .some h)) ∙ e in ne (omega arith)
 
   -- the next leap does
   pub tallied-next : monthStart next - 1 ≡ day → (v : Survey) → v .up ≡ n - down → v .down ≡ down → v .ending ≡ endingOf sign → TalliedOn s day v
   tallied-next e v eu ed f =
-      let some : n < length (leapsOf s) =
-      elim (decLt n (length (leapsOf s))) [
+      let some : n < length (s .leaps) =
+      elim (decLt n (length (s .leaps))) [
         | yes k ↦ k
         | no k ↦ absurd (let z = q .none (omega arith) in omega (arith, rw z at e, start-zero, start-from month, i .from))
       ] in
       let leap = q .some some in
-      let start : monthStart (leapMonth (leapsOf s) n) ≡ day + 1 = ap (λ l. monthStart (l .month)) leap ∙ omega (arith, e, start-from next) in
+      let start : monthStart (leapMonth (s .leaps) n) ≡ day + 1 = ap (λ l. monthStart (l .month)) leap ∙ omega (arith, e, start-from next) in
       tallied-by v eu ed (f ∙ sym (ending-next s w day n some start ∙ ap (λ l. endingOf (l .sign)) leap))

@@ -7,8 +7,7 @@ use native.Mathlib.Omega.{arith}
 use Rattle.calendar.specs.Calendar.{endDay, monthAt}
 use Rattle.calendar.specs.declared.Lookup.{Lookup}
 use Rattle.calendar.proofs.Laws.{in-month, at-given}
-use Rattle.schedule.specs.declared.Schedule.{Schedule}
-use Rattle.schedule.specs.Schedule.{wellFormed}
+use Rattle.schedule.specs.Schedule.{Schedule, wellFormed}
 use Rattle.clock.specs.declared.look.Survey.{Survey}
 use Rattle.clock.specs.declared.days.Day.{Day}
 use Rattle.clock.specs.Known.{lastDay, knownTo, known}

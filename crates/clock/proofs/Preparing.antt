@@ -15,21 +15,20 @@ use borrow.Author.Tests.{eqb-true, eqb-false}
 use Rattle.calendar.specs.Calendar.{endDay, monthStart}
 use Rattle.schedule.specs.declared.Sign.{Sign}
 use Rattle.schedule.specs.declared.Sign.the-variants.{Positive, Negative}
-use Rattle.schedule.specs.declared.Schedule.{Schedule}
-use Rattle.schedule.specs.Schedule.{noLeap, leapsOf, wellFormed}
+use Rattle.schedule.specs.Schedule.{Schedule, noLeap, wellFormed}
 use Rattle.schedule.specs.Extends.{sameSign}
 use Rattle.schedule.specs.WordLayout.{expiryWord, meant}
 use Rattle.schedule.proofs.Cases.{by-bool}
 use Rattle.clock.specs.Private.{count, far, ofSign, Starts, Fenced, Tallies, Guesses, Prepared, Ready}
-use Rattle.clock.proofs.LaidOut.{last-meant, full-meant}
+use Rattle.clock.proofs.LaidOut.{last-meant}
 use Rattle.clock.proofs.Placed.{of-sign-next}
 
 -- ---- the days on which the first i leaps take effect
 pub record Starting (s : Schedule) (starts : List ℕ) (i : ℕ) : Type 0 where
   pub size : length starts ≡ 258
-  pub place : i ≤ s .count
+  pub place : i ≤ length (s .leaps)
   pub zeroth : getD starts 0 0 ≡ 0
-  pub leaps : (k : ℕ) → k < i → getD starts (k + 1) 0 ≡ monthStart (getD (leapsOf s) k noLeap .month)
+  pub leaps : (k : ℕ) → k < i → getD starts (k + 1) 0 ≡ monthStart (getD (s .leaps) k noLeap .month)
   pub beyond : (k : ℕ) → i ≤ k → k ≤ 256 → getD starts (k + 1) 0 ≡ far
 
 -- the array as it is made
@@ -49,8 +48,8 @@ starting-none s =
       beyond = λ k h r. no-start k r;
     }
 
-pub starting-one : {s : Schedule} {starts : List ℕ} {i : ℕ} → Starting s starts i → s .count ≤ 256 → i < s .count → (v : ℕ)
-    → v ≡ monthStart (getD (leapsOf s) i noLeap .month) → Starting s (set starts (i + 1) v) (i + 1)
+pub starting-one : {s : Schedule} {starts : List ℕ} {i : ℕ} → Starting s starts i → length (s .leaps) ≤ 256 → i < length (s .leaps) → (v : ℕ)
+    → v ≡ monthStart (getD (s .leaps) i noLeap .month) → Starting s (set starts (i + 1) v) (i + 1)
 starting-one {s} {starts} {i} p room h v e =
     record {
       size = length-set starts (i + 1) v ∙ p .size;
@@ -63,7 +62,7 @@ starting-one {s} {starts} {i} p room h v e =
       beyond = λ k l r. getD-set-other starts (i + 1) (k + 1) v 0 (λ z. omega arith) ∙ p .beyond k (omega arith) r;
     }
 
-pub starting-all : {s : Schedule} {starts : List ℕ} {i : ℕ} → Starting s starts i → s .count ≤ i → s .count ≤ 256 → Fenced starts × Starts s starts
+pub starting-all : {s : Schedule} {starts : List ℕ} {i : ℕ} → Starting s starts i → length (s .leaps) ≤ i → length (s .leaps) ≤ 256 → Fenced starts × Starts s starts
 starting-all {s} {starts} {i} p h room = (
   record { first = p .zeroth; end = p .beyond 256 (omega (arith, p .place)) (omega arith) },
   record { leaps = λ k l. p .leaps k (omega arith); beyond = λ k l r. p .beyond k (omega (arith, p .place)) r },
@@ -73,10 +72,10 @@ starting-all {s} {starts} {i} p h room = (
 
 pub record Tallying (s : Schedule) (sign : Sign) (tallies : List ℕ) (n i : ℕ) : Type 0 where
   pub size : length tallies ≡ 258
-  pub place : i ≤ s .count
-  pub sum : n ≡ ofSign sign (take i (leapsOf s))
+  pub place : i ≤ length (s .leaps)
+  pub sum : n ≡ ofSign sign (take i (s .leaps))
   pub few : n ≤ i
-  pub firsts : (k : ℕ) → k ≤ i → getD tallies k 0 ≡ ofSign sign (take k (leapsOf s))
+  pub firsts : (k : ℕ) → k ≤ i → getD tallies k 0 ≡ ofSign sign (take k (s .leaps))
 
 pub tallying-none : (s : Schedule) (sign : Sign) → Tallying s sign (replicate 258 0) 0 0
 tallying-none s sign =
@@ -88,10 +87,10 @@ tallying-none s sign =
       firsts = λ k h. let z : k ≡ 0 = omega arith in rw z (getD-replicate {A = ℕ} 258 0 0 0 (omega arith));
     }
 
-pub tallying-one : {s : Schedule} {sign : Sign} {tallies : List ℕ} {n i : ℕ} → Tallying s sign tallies n i → length (leapsOf s) ≡ s .count → s .count ≤ 256 → i < s .count → (r : ℕ)
-    → (r ≡ count (sameSign sign (getD (leapsOf s) i noLeap .sign))) × (r ≤ 1) → Tallying s sign (set tallies (i + 1) (n + r)) (n + r) (i + 1)
-tallying-one {s} {sign} {tallies} {n} {i} p full room h r e =
-    let sum : n + r ≡ ofSign sign (take (i + 1) (leapsOf s)) = omega (arith, p .sum, e .0, of-sign-next sign (leapsOf s) i (omega arith)) in
+pub tallying-one : {s : Schedule} {sign : Sign} {tallies : List ℕ} {n i : ℕ} → Tallying s sign tallies n i → length (s .leaps) ≤ 256 → i < length (s .leaps) → (r : ℕ)
+    → (r ≡ count (sameSign sign (getD (s .leaps) i noLeap .sign))) × (r ≤ 1) → Tallying s sign (set tallies (i + 1) (n + r)) (n + r) (i + 1)
+tallying-one {s} {sign} {tallies} {n} {i} p room h r e =
+    let sum : n + r ≡ ofSign sign (take (i + 1) (s .leaps)) = omega (arith, p .sum, e .0, of-sign-next sign (s .leaps) i (omega arith)) in
     record {
       size = length-set tallies (i + 1) (n + r) ∙ p .size;
       place = omega arith;
@@ -103,7 +102,7 @@ tallying-one {s} {sign} {tallies} {n} {i} p full room h r e =
           (eq-or-lt-of-le l);
     }
 
-pub tallying-all : {s : Schedule} {sign : Sign} {tallies : List ℕ} {n i : ℕ} → Tallying s sign tallies n i → s .count ≤ i → Tallies s sign tallies
+pub tallying-all : {s : Schedule} {sign : Sign} {tallies : List ℕ} {n i : ℕ} → Tallying s sign tallies n i → length (s .leaps) ≤ i → Tallies s sign tallies
 tallying-all p h = record { of-first = λ k l. p .firsts k (omega arith) }
 
 -- ---- where to start looking
@@ -148,7 +147,7 @@ module _ (words : List ℕ) {last : ℕ} {starts ups downs guesses : List ℕ} (
     (l : (expiryWord words ≤ endDay → last ≡ expiryWord words - 1) × (last < endDay)) (f : Fenced starts × Starts (meant words) starts)
     (u : Tallies (meant words) Positive ups) (d : Tallies (meant words) Negative downs) (g : Guesses starts guesses) where
   pub prepared-list : Prepared (meant words) last starts ups downs
-  prepared-list = record { well = w; is-last = last-meant words w last (l .0); full = full-meant words w; starting = f .1; raised = u; lowered = d }
+  prepared-list = record { well = w; is-last = last-meant words w refl (l .0); starting = f .1; raised = u; lowered = d }
 
   pub ready-list : Ready last starts ups downs guesses
   ready-list = record { fenced = f .0; guessed = g; inside = l .1; of = meant words; prepared = prepared-list }

@@ -4,7 +4,6 @@ use mathlib.Core.List.{List, [], _∷_}
 use mathlib.Core.Path.{_≡_}
 use Prim.Native.Nat.{ℕ, zero, suc}
 use lib.ListN.{getD}
-use Rattle.schedule.specs.declared.Schedule.{Schedule}
 use Rattle.clock.specs.Question.{Answer, Utc, number, orZero}
 
 -- an array whose first n elements are f 0, f 1 and so on; the others stay as they were

@@ -9,11 +9,8 @@ use lib.ListN.{length, getD, take}
 use Rattle.calendar.specs.Calendar.{firstDay, endDay, monthStart, InMonth}
 use Rattle.schedule.specs.declared.Sign.{Sign}
 use Rattle.schedule.specs.declared.Sign.the-variants.{Positive, Negative}
-use Rattle.schedule.specs.declared.Leap.{Leap}
-use Rattle.schedule.specs.declared.Schedule.{Schedule}
-use Rattle.schedule.specs.Schedule.{noLeap, leapsOf, wellFormed}
+use Rattle.schedule.specs.Schedule.{Leap, Schedule, noLeap, wellFormed}
 use Rattle.schedule.specs.Extends.{sameSign}
-use Rattle.clock.specs.declared.days.Ending.{Ending}
 use Rattle.clock.specs.declared.look.Survey.{Survey}
 use Rattle.clock.specs.declared.days.Day.{Day}
 use Rattle.clock.specs.Days.{microsPerDay, inEffect, ending}
@@ -55,8 +52,8 @@ pub record Ahead (ls : List Leap) (n next : ℕ) (sign : Sign) : Type 0 where
 
 -- a survey has the tallies of a day, and how it ends
 pub record TalliedOn (s : Schedule) (day : ℕ) (v : Survey) : Type 0 where
-  pub up : v .up ≡ tally Positive (leapsOf s) day
-  pub down : v .down ≡ tally Negative (leapsOf s) day
+  pub up : v .up ≡ tally Positive (s .leaps) day
+  pub down : v .down ≡ tally Negative (s .leaps) day
   pub ends : v .ending ≡ ending s day
 
 -- a survey for a day of a month: whether the schedule is well formed; where it is, the rest is right
@@ -72,7 +69,7 @@ pub record SurveyedOn (s : Schedule) (day : ℕ) (v : Survey) : Type 0 where
 -- what a schedule says of a day
 abbrev pub dayOn : Schedule → ℕ → Day
 dayOn s day =
-    record { well = wellFormed s; up = tally Positive (leapsOf s) day; down = tally Negative (leapsOf s) day; ending = ending s day; last = lastDay s }
+    record { well = wellFormed s; up = tally Positive (s .leaps) day; down = tally Negative (s .leaps) day; ending = ending s day; last = lastDay s }
 
 -- whether the schedule is well formed; and, for a well-formed one, its last day
 pub record ListFor (s : Schedule) (well : Bool) (last : ℕ) : Type 0 where
@@ -116,8 +113,8 @@ far = 4_294_967_295
 
 -- the days on which the leaps take effect stand from place 1 on, and after them `far`
 pub record Starts (s : Schedule) (starts : List ℕ) : Type 0 where
-  pub leaps : (i : ℕ) → i < s .count → getD starts (i + 1) 0 ≡ monthStart (getD (leapsOf s) i noLeap .month)
-  pub beyond : (i : ℕ) → s .count ≤ i → i ≤ 256 → getD starts (i + 1) 0 ≡ far
+  pub leaps : (i : ℕ) → i < length (s .leaps) → getD starts (i + 1) 0 ≡ monthStart (getD (s .leaps) i noLeap .month)
+  pub beyond : (i : ℕ) → length (s .leaps) ≤ i → i ≤ 256 → getD starts (i + 1) 0 ≡ far
 
 -- any search in them ends: the first is day 0, the last `far`
 pub record Fenced (starts : List ℕ) : Type 0 where
@@ -126,7 +123,7 @@ pub record Fenced (starts : List ℕ) : Type 0 where
 
 -- how many of the first leaps have the sign, for each number of them
 pub record Tallies (s : Schedule) (sign : Sign) (tallies : List ℕ) : Type 0 where
-  pub of-first : (i : ℕ) → i ≤ s .count → getD tallies i 0 ≡ ofSign sign (take i (leapsOf s))
+  pub of-first : (i : ℕ) → i ≤ length (s .leaps) → getD tallies i 0 ≡ ofSign sign (take i (s .leaps))
 
 -- a day lies in the stretch at a place: it is not before its start, and before the next one's
 pub record Stretch (starts : List ℕ) (day at : ℕ) : Type 0 where
@@ -143,7 +140,6 @@ pub record Guesses (starts guesses : List ℕ) : Type 0 where
 pub record Prepared (s : Schedule) (last : ℕ) (starts ups downs : List ℕ) : Type 0 where
   pub well : wellFormed s ≡ true
   pub is-last : last ≡ lastDay s
-  pub full : length (leapsOf s) ≡ s .count
   pub starting : Starts s starts
   pub raised : Tallies s Positive ups
   pub lowered : Tallies s Negative downs

@@ -6,10 +6,9 @@ ghost use Rattle.clock.specs.Days.{dayLength, tai};
 ghost use Rattle.clock.specs.Known.{lastDay};
 ghost use Rattle.clock.specs.Question.{atDate};
 ghost use mathlib.Core.Bool.{true};
-ghost use Rattle.schedule.specs.Schedule.{wellFormed};
+ghost use Rattle.schedule.specs.Schedule.{Schedule, wellFormed};
 ghost use Rattle.schedule.specs.WordLayout.{meant};
 ghost use Rattle.clock.specs.Private.{SurveyedOn, dayOn, ListFor, DayFor, told};
-use crate::inplace::look_at;
 use crate::look::Survey;
 use crate::look::look;
 use crate::look::wide;
@@ -18,7 +17,6 @@ use calendar::FIRST_DAY;
 use refusals::BEFORE_1972;
 use refusals::NOT_KNOWN;
 use refusals::NOT_WELL_FORMED;
-use schedule::Schedule;
 
 // A second in microseconds.
 const MICROS_PER_SECOND: u64 = 1_000_000;
@@ -90,21 +88,12 @@ pub(crate) fn day_by(v: Survey, last: u64) -> Day
     }
 }
 
-// What a schedule says of a day. Outside the calendar the lookup answers month 0, and only `well` and `last` mean something.
-pub(crate) fn day_at(s: Schedule, day: u64) -> Day
-    ensures { λ r. ⌜ DayFor s day r ⌝ }
-{
-    let found = calendar::month_of(day);
-    let v = look(s, found.month, day);
-    day_by(v, day_before(s.expiry))
-}
-
-// What a schedule as words, whose last day is given, says of a day.
+// What a list, whose last day is given, says of a day. Outside the calendar the lookup answers month 0, and only `well` and `last` mean something.
 pub(crate) fn day_in(words: &[u32; 514], last: u64, day: u64) -> Day
     ensures { λ r. ⌜ ((wellFormed (meant (now (words .entry))) ≡ true → last ≡ lastDay (meant (now (words .entry)))) → DayFor (meant (now (words .entry))) day r) ⌝ }
 {
     let found = calendar::month_of(day);
-    let v = look_at(words, wide(found.month), day);
+    let v = look(words, wide(found.month), day);
     day_by(v, last)
 }
 

@@ -1,6 +1,7 @@
 // What an instant of UTC or of UTS is refused with, in the paper's order, by what the schedule says of its day.
 ghost use mathlib.Core.Path.{_≡_};
 ghost use Prim.Native.Nat.{_≤_};
+ghost use Rattle.schedule.specs.Schedule.{Schedule};
 ghost use Rattle.clock.specs.Days.{shortDay};
 ghost use Rattle.clock.specs.Known.{fullyKnown, knownTo};
 ghost use Rattle.clock.specs.Question.{given, atInstant, atUtc};
@@ -16,7 +17,6 @@ use refusals::BEFORE_1972;
 use refusals::NO_INSTANT;
 use refusals::NOT_KNOWN;
 use refusals::NOT_WELL_FORMED;
-use schedule::Schedule;
 
 // Whether the last day is fully known: the next day isn't the first of a month.
 fn is_whole(last: u64) -> bool

@@ -1,19 +1,19 @@
-// One look at a schedule for a day: whether it is well formed, how many leaps of each sign are in effect on the day, and how it ends.
-// The functions here that read the places have one caller each, so that they can be compiled into it with no copy of the schedule.
+// One look at a list for a day, where its words stand: whether they are a list, how many leaps of each sign are in effect on the day, and how it
+// ends.
 ghost use mathlib.Core.Path.{_≡_};
 ghost use mathlib.Core.Bool.{true, false};
 ghost use Prim.Native.Nat.{ℕ, _≤_, _<_};
 ghost use lib.ListN.{length};
 ghost use Rattle.calendar.specs.Calendar.{lastMonth, InMonth};
-ghost use Rattle.schedule.specs.declared.Schedule.{Schedule};
-ghost use Rattle.schedule.specs.Schedule.{maxLeaps, leapsOf, wellFormed};
+ghost use Rattle.schedule.specs.Schedule.{Schedule, maxLeaps, wellFormed};
+ghost use Rattle.schedule.specs.WordLayout.{meant};
 ghost use Rattle.schedule.specs.Extends.{sameSign};
 ghost use Rattle.schedule.specs.declared.Sign.the-variants.{Negative};
 ghost use Rattle.clock.specs.Days.{endingOf};
 ghost use Rattle.clock.specs.Private.{count, ByMonth, Lowered, Ahead, TalliedOn, Surveyed};
 use crate::days::Ending;
-use schedule::Schedule;
 use schedule::Sign;
+use schedule::sign_of;
 
 // Whether a schedule is well formed, how many leaps of each sign are in effect on a day, and how the day ends.
 pub(crate) struct Survey {
@@ -64,7 +64,7 @@ pub(crate) fn malformed() -> Survey
 // stands for none.
 pub(crate) fn survey_by(n: usize, down: u32, next: u16, sign: Sign, day: u64) -> Survey
     requires { ⌜ (n ≤ maxLeaps) × (down ≤ n) × (next ≤ lastMonth) ⌝ }
-    ensures { λ r. ⌜ (r .well ≡ true) × ((s : Schedule) (month : ℕ) → wellFormed s ≡ true → ByMonth (leapsOf s) month n → Lowered (leapsOf s) n down → Ahead (leapsOf s) n next sign → InMonth day month → TalliedOn s day r) ⌝ }
+    ensures { λ r. ⌜ (r .well ≡ true) × ((s : Schedule) (month : ℕ) → wellFormed s ≡ true → ByMonth (s .leaps) month n → Lowered (s .leaps) n down → Ahead (s .leaps) n next sign → InMonth day month → TalliedOn s day r) ⌝ }
 {
     let up = (n as u32 - down) as u16;
     let lowered = down as u16;
@@ -85,16 +85,15 @@ pub(crate) fn survey_by(n: usize, down: u32, next: u16, sign: Sign, day: u64) ->
     }
 }
 
-// How many leaps of a well-formed schedule lie at a month or before it. The last ones are looked at first, since most days asked about are
-// late.
-fn leaps_by(s: Schedule, month: u16) -> usize
-    requires { ⌜ wellFormed s ≡ true ⌝ }
-    ensures { λ r. ⌜ ByMonth (leapsOf s) month r ⌝ }
+// How many leaps of a list lie at a month or before it. The last ones are looked at first, since most days asked about are late.
+fn leaps_by(words: &[u32; 514], month: u32) -> usize
+    requires { ⌜ wellFormed (meant (now words)) ≡ true ⌝ }
+    ensures { λ r. ⌜ ByMonth (meant (now (words .entry)) .leaps) month r × (r ≤ maxLeaps) ⌝ }
 {
-    let mut n = s.count;
+    let mut n = schedule::count_of(words);
     while 0 < n {
         let before = n - 1;
-        if s.leaps[before].month <= month {
+        if words[2 * before] <= month {
             return n;
         }
         n = before;
@@ -102,35 +101,34 @@ fn leaps_by(s: Schedule, month: u16) -> usize
     n
 }
 
-// How many of the first n leaps are negative.
-fn lowered(s: Schedule, n: usize) -> u32
-    requires { ⌜ (n ≤ length (leapsOf s)) × (n ≤ maxLeaps) ⌝ }
-    ensures { λ r. ⌜ Lowered (leapsOf s) n r ⌝ }
+// How many of the first n leaps of a list are negative.
+fn lowered(words: &[u32; 514], n: usize) -> u32
+    requires { ⌜ (wellFormed (meant (now words)) ≡ true) × (n ≤ length (meant (now words) .leaps)) ⌝ }
+    ensures { λ r. ⌜ Lowered (meant (now (words .entry)) .leaps) n r ⌝ }
 {
     let mut down: u32 = 0;
     let mut i: usize = 0;
     while i < n {
-        let l = s.leaps[i];
-        let sign = l.sign;
+        let sign = sign_of(words[2 * i + 1]);
         down += wide(takes(sign));
         i += 1;
     }
     down
 }
 
-// The look at a schedule for a day of a month.
-pub(crate) fn look(s: Schedule, month: u16, day: u64) -> Survey
-    ensures { λ r. ⌜ Surveyed s month day r ⌝ }
+// The look at a list for a day of a month.
+pub(crate) fn look(words: &[u32; 514], month: u32, day: u64) -> Survey
+    ensures { λ r. ⌜ Surveyed (meant (now (words .entry))) month day r ⌝ }
 {
-    if !schedule::is_well_formed(s) {
+    if !schedule::is_list(words) {
         return malformed();
     }
-    let n = leaps_by(s, month);
-    let down = lowered(s, n);
-    if n < s.count {
-        let l = s.leaps[n];
-        let sign = l.sign;
-        return survey_by(n, down, l.month, sign, day);
+    let n = leaps_by(words, month);
+    let down = lowered(words, n);
+    if n < schedule::count_of(words) {
+        let next = words[2 * n];
+        let sign = sign_of(words[2 * n + 1]);
+        return survey_by(n, down, next as u16, sign, day);
     }
     survey_by(n, down, 0, Sign::Positive, day)
 }

@@ -6,15 +6,13 @@ ghost use mathlib.Core.List.{List};
 ghost use Prim.Native.Nat.{ℕ, _+_, _≤_, _<_};
 ghost use lib.ListN.{getD};
 ghost use Rattle.calendar.specs.Calendar.{endDay};
-ghost use Rattle.schedule.specs.declared.Schedule.{Schedule};
-ghost use Rattle.schedule.specs.Schedule.{wellFormed};
+ghost use Rattle.schedule.specs.Schedule.{Schedule, wellFormed};
 ghost use Rattle.schedule.specs.WordLayout.{signOf, meant};
 ghost use Rattle.schedule.specs.Extends.{sameSign};
 ghost use Rattle.clock.specs.Days.{ending};
 ghost use Rattle.clock.specs.Private.{count, DayFor, Stretch, Starts, Tallies, Fenced, Guesses, Prepared};
 use crate::days::Day;
 use crate::days::Ending;
-use crate::inplace::leaps_in;
 use crate::questions::smaller;
 use schedule::Sign;
 
@@ -34,7 +32,7 @@ pub(crate) fn starts_of(words: &[u32; 514]) -> [u64; 258]
 {
     let mut starts = [FAR; 258];
     starts[0] = 0;
-    let count = leaps_in(words);
+    let count = schedule::count_of(words);
     let mut i: usize = 0;
     while i < count {
         let month = words[2 * i];
@@ -60,7 +58,7 @@ pub(crate) fn tallies_of(words: &[u32; 514], sign: Sign) -> [u16; 258]
     ensures { λ r. ⌜ Tallies (meant (now (words .entry))) sign r ⌝ }
 {
     let mut tallies = [0u16; 258];
-    let count = leaps_in(words);
+    let count = schedule::count_of(words);
     let mut n: u16 = 0;
     let mut i: usize = 0;
     while i < count {

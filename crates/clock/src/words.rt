@@ -29,7 +29,7 @@ use refusals::NOT_WELL_FORMED;
 pub fn dtai(words: &[u32; 514], day: u64) -> DtaiAnswer
     ensures { λ r. ⌜ r ≡ dtaiAnswer (dtaiOn (meant (now (words .entry))) day) ⌝ }
 {
-    let last = day_before(words[513]);
+    let last = day_before(schedule::expiry_of(words));
     dtai_on(day_in(words, last, day), day)
 }
 
@@ -37,7 +37,7 @@ pub fn dtai(words: &[u32; 514], day: u64) -> DtaiAnswer
 pub fn utc_to_tai(words: &[u32; 514], day: u64, t: UtcMicros) -> TaiAnswer
     ensures { λ r. ⌜ r ≡ taiAnswer (utcToTai (meant (now (words .entry))) day (t .0)) ⌝ }
 {
-    let last = day_before(words[513]);
+    let last = day_before(schedule::expiry_of(words));
     tai_on(day_in(words, last, day), day, t.0)
 }
 
@@ -45,7 +45,7 @@ pub fn utc_to_tai(words: &[u32; 514], day: u64, t: UtcMicros) -> TaiAnswer
 pub fn tai_to_utc(words: &[u32; 514], x: TaiMicros) -> UtcAnswer
     ensures { λ r. ⌜ r ≡ utcAnswer (taiToUtc (meant (now (words .entry))) (x .0)) ⌝ }
 {
-    let last = day_before(words[513]);
+    let last = day_before(schedule::expiry_of(words));
     let near = near_day(x.0, last);
     utc_on(day_in(words, last, near), near, x.0)
 }
@@ -54,7 +54,7 @@ pub fn tai_to_utc(words: &[u32; 514], x: TaiMicros) -> UtcAnswer
 pub fn utc_to_uts(words: &[u32; 514], day: u64, t: UtcMicros) -> UtsAnswer
     ensures { λ r. ⌜ r ≡ utsAnswer (utcToUts (meant (now (words .entry))) day (t .0)) ⌝ }
 {
-    let last = day_before(words[513]);
+    let last = day_before(schedule::expiry_of(words));
     if t.0 < UTS_CUTOFF {
         if schedule::is_list(words) {
             return early_uts(last, day, t.0);
@@ -68,7 +68,7 @@ pub fn utc_to_uts(words: &[u32; 514], day: u64, t: UtcMicros) -> UtsAnswer
 pub fn uts_to_utc(words: &[u32; 514], day: u64, u: UtsNanos) -> MicrosAnswer
     ensures { λ r. ⌜ r ≡ microsAnswer (utsToUtc (meant (now (words .entry))) day (u .0)) ⌝ }
 {
-    let last = day_before(words[513]);
+    let last = day_before(schedule::expiry_of(words));
     if u.0 < NANOS_CUTOFF {
         if schedule::is_list(words) {
             return early_micros(last, day, u.0);

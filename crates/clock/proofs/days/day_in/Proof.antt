@@ -11,8 +11,8 @@ returns c =
     let args = c .before .before .before .before .args in
     let month-of = c .before .before .before .month-of in
     let wide = c .before .before .wide in
-    let look-at = c .before .look-at in
-    λ e. day-by .ensures (meant (args .words .now)) (args .day) (surveyed-on (month-of .ensures) (rw (← wide .ensures .0) (look-at .ensures))) e
+    let look = c .before .look in
+    λ e. day-by .ensures (meant (args .words .now)) (args .day) (surveyed-on (month-of .ensures) (rw (← wide .ensures .0) (look .ensures))) e
 
 pub day-in-spec : {M : Type 1} → statement M
 day-in-spec = tie.close (tie.spec (λ c κs. search needs) (λ c κs. search needs) (λ c κs. search needs) (λ c κs. search needs) returns)

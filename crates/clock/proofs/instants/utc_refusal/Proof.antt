@@ -5,7 +5,7 @@ use native.Mathlib.Omega.{arith}
 use borrow.Author.Needs.{needs}
 use borrow.Author.Tests.{lt-ltb, le-ltb}
 use Rattle.refusals.specs.Refusals.{noInstant}
-use Rattle.schedule.specs.declared.Schedule.{Schedule}
+use Rattle.schedule.specs.Schedule.{Schedule}
 use Rattle.clock.specs.Days.{longDay, ending, dayLength}
 use Rattle.clock.specs.declared.days.Day.{Day}
 use Rattle.clock.specs.Private.{DayFor}

@@ -1,16 +1,16 @@
 -- `clock::look::look` meets its contract. Assumes nothing.
-use mathlib.Core.Path.{_≡_, sym, _∙_}
-use Prim.Native.Nat.{_≤_, _<_}
+use mathlib.Core.Path.{sym, ap, _∙_}
+use Prim.Native.Nat.{_*_, _≤_, _<_}
 use native.Mathlib.Omega.{arith}
-use lib.ListN.{length, length-map}
-use lib.Seq.{getD-take}
+use lib.ListN.{length, getD}
 use borrow.Author.Needs.{needs}
-use Rattle.schedule.specs.Schedule.{noLeap, leapsOf}
-use Rattle.schedule.proofs.Formed.{used}
-use Rattle.schedule.proofs.Gaps.{parts}
-use Rattle.schedule.proofs.WordLayout.{small-month}
+use Rattle.schedule.specs.declared.Sign.{Sign}
+use Rattle.schedule.specs.Schedule.{Leap}
+use Rattle.schedule.specs.WordLayout.{countWord, meant}
 use Rattle.clock.proofs.Checks.{passed, failed}
 use Rattle.clock.proofs.Places.{not-well}
+use Rattle.schedule.proofs.Meant.{count-is}
+use Rattle.clock.proofs.LaidOut.{leap-meant, month-meant}
 use Rattle.clock.proofs.Placed.{ahead-some, ahead-none}
 use Rattle.clock.proofs.look.look.Statement.{statement}
 use Rattle.clock.proofs.look.look.Tie as tie
@@ -19,106 +19,101 @@ returns : tie.Need-returns
 returns c =
     let args = c .before .before .before .args in
     let malformed = c .malformed in
-    let is-well-formed = c .before .before .is-well-formed in
+    let is-list = c .before .before .is-list in
     let if1 = c .before .if1 in
-    not-well (args .t1) (args .month) (args .day) (malformed .result) (malformed .ensures) (failed (is-well-formed .ensures) (if1 .taken))
+    not-well (meant (args .words .now)) (args .month) (args .day) (malformed .result) (malformed .ensures) (failed (is-list .ensures) (if1 .taken))
 
 leaps-by-requires : tie.Need-leaps-by-requires
 leaps-by-requires c κs =
-    let is-well-formed = c .before .is-well-formed in
+    let is-list = c .before .is-list in
     let if1 = c .if1 in
-    passed (is-well-formed .ensures) (if1 .left)
+    passed (is-list .ensures) (if1 .left)
 
 lowered-requires : tie.Need-lowered-requires
 lowered-requires c κs =
-    let args = c .before .before .before .args in
-    let good = c .before .before .before .good in
-    let is-well-formed = c .before .before .is-well-formed in
+    let is-list = c .before .before .is-list in
     let if1 = c .before .if1 in
     let leaps-by = c .leaps-by in
-    let full : length (args .t1 .leaps) ≡ 256 = simp length-map at (good .0 .1 .1 .0 .1 .0 .1) in
-    let room = parts (args .t1) (passed (is-well-formed .ensures) (if1 .left)) .room in
-    (leaps-by .ensures .room, omega (arith, leaps-by .ensures .room, used (args .t1) full 0 room))
+    let args = c .before .before .before .args in
+    let w = passed (is-list .ensures) (if1 .left) in
+    (w, omega (arith, leaps-by .ensures .0 .room, count-is (args .words .now) w))
 
-mul-l : tie.Need-mul-l
-mul-l c =
-    let if2 = c .if2 in
-    let args = c .before .before .before .before .before .args in
-    let is-well-formed = c .before .before .before .before .is-well-formed in
-    let if1 = c .before .before .before .if1 in
-    omega (arith, if2 .taken, parts (args .t1) (passed (is-well-formed .ensures) (if1 .left)) .room)
-
-element-copy-out-l : tie.Need-element-copy-out-l
-element-copy-out-l c =
-    let args = c .before .before .before .before .before .args in
-    let is-well-formed = c .before .before .before .before .is-well-formed in
-    let if1 = c .before .before .before .if1 in
-    let if2 = c .if2 in
-    let room = parts (args .t1) (passed (is-well-formed .ensures) (if1 .left)) .room in
-    omega (arith, if2 .taken)
+cast-survey-by : tie.Need-cast-survey-by
+cast-survey-by c =
+    let args = c .before .before .before .before .before .before .before .before .before .args in
+    let is-list = c .before .before .before .before .before .before .before .before .is-list in
+    let if1 = c .before .before .before .before .before .before .before .if1 in
+    let leaps-by = c .before .before .before .before .before .before .leaps-by in
+    let if2 = c .before .before .before .if2 in
+    let count-of = c .before .before .before .before .count-of in
+    let words = args .words .now in
+    let w = passed (is-list .ensures) (if1 .left) in
+    let h : leaps-by .result < countWord words = omega (arith, if2 .taken, count-of .ensures) in
+    omega (arith, month-meant words w (leaps-by .result) h)
 
 survey-by-requires : tie.Need-survey-by-requires
 survey-by-requires c κs =
-    let args = c .before .before .before .before .before .before .args in
-    let good = c .before .before .before .before .before .before .good in
-    let is-well-formed = c .before .before .before .before .before .is-well-formed in
-    let if1 = c .before .before .before .before .if1 in
-    let if2 = c .before .if2 in
-    let lowered = c .before .before .lowered in
-    let leaps-by = c .before .before .before .leaps-by in
-    let full : length (args .t1 .leaps) ≡ 256 = simp length-map at (good .0 .1 .1 .0 .1 .0 .1) in
-    let w = passed (is-well-formed .ensures) (if1 .left) in
-    (omega (arith, if2 .taken, parts (args .t1) w .room), lowered .ensures .few, small-month (args .t1) full w (leaps-by .result))
+    let args = c .before .before .before .before .before .before .before .before .before .args in
+    let is-list = c .before .before .before .before .before .before .before .before .is-list in
+    let if1 = c .before .before .before .before .before .before .before .if1 in
+    let leaps-by = c .before .before .before .before .before .before .leaps-by in
+    let if2 = c .before .before .before .if2 in
+    let count-of = c .before .before .before .before .count-of in
+    let lowered = c .before .before .before .before .before .lowered in
+    let words = args .words .now in
+    let w = passed (is-list .ensures) (if1 .left) in
+    let h : leaps-by .result < countWord words = omega (arith, if2 .taken, count-of .ensures) in
+    (omega (arith, leaps-by .ensures .1), lowered .ensures .few, month-meant words w (leaps-by .result) h)
 
 returns-2 : tie.Need-returns-2
 returns-2 c =
-    let args = c .before .before .before .before .before .before .before .args in
-    let good = c .before .before .before .before .before .before .before .good in
-    let is-well-formed = c .before .before .before .before .before .before .is-well-formed in
-    let if1 = c .before .before .before .before .before .if1 in
-    let leaps-by = c .before .before .before .before .leaps-by in
-    let if2 = c .before .before .if2 in
+    let args = c .before .before .before .before .before .before .before .before .before .before .args in
+    let is-list = c .before .before .before .before .before .before .before .before .before .is-list in
+    let if1 = c .before .before .before .before .before .before .before .before .if1 in
+    let leaps-by = c .before .before .before .before .before .before .before .leaps-by in
+    let if2 = c .before .before .before .before .if2 in
+    let count-of = c .before .before .before .before .before .count-of in
     let survey-by = c .survey-by in
-    let lowered = c .before .before .before .lowered in
-    let full : length (args .t1 .leaps) ≡ 256 = simp length-map at (good .0 .1 .1 .0 .1 .0 .1) in
-    let s = args .t1 in
-    let well = passed (is-well-formed .ensures) (if1 .left) in
-    let some : leaps-by .result < length (leapsOf s) = omega (arith, if2 .taken, used s full 0 (parts s well .room)) in
+    let lowered = c .before .before .before .before .before .before .lowered in
+    let sign-of = c .before .sign-of in
+    let words = args .words .now in
+    let well = passed (is-list .ensures) (if1 .left) in
+    let h : leaps-by .result < countWord words = omega (arith, if2 .taken, count-of .ensures) in
+    let some : leaps-by .result < length (meant words .leaps) = omega (arith, h, count-is words well) in
+    let leap : (sign : Sign) → Leap = λ sign. record { month = getD words (2 * leaps-by .result) 0; sign = sign } in
     record {
       well = survey-by .ensures .0 ∙ sym well;
-      tallied = λ w i. survey-by .ensures .1 s (args .month) w (leaps-by .ensures) (lowered .ensures)
-          (ahead-some some _ _ (getD-take (s .count) (s .leaps) (leaps-by .result) noLeap (if2 .taken))) i;
+      tallied = λ w i. survey-by .ensures .1 (meant words) (args .month) w (leaps-by .ensures .0) (lowered .ensures)
+          (ahead-some some (getD words (2 * leaps-by .result) 0) (sign-of .result) (leap-meant words well (leaps-by .result) h ∙ sym (ap leap (sign-of .ensures)))) i;
     }
 
 survey-by-requires-2 : tie.Need-survey-by-requires-2
 survey-by-requires-2 c κs =
-    let args = c .before .before .before .before .before .args in
-    let good = c .before .before .before .before .before .good in
-    let is-well-formed = c .before .before .before .before .is-well-formed in
-    let if1 = c .before .before .before .if1 in
-    let leaps-by = c .before .before .leaps-by in
-    let lowered = c .before .lowered in
-    let full : length (args .t1 .leaps) ≡ 256 = simp length-map at (good .0 .1 .1 .0 .1 .0 .1) in
-    let room = parts (args .t1) (passed (is-well-formed .ensures) (if1 .left)) .room in
-    (omega (arith, leaps-by .ensures .room, used (args .t1) full 0 room), lowered .ensures .few, omega arith)
+    let is-list = c .before .before .before .before .before .is-list in
+    let if1 = c .before .before .before .before .if1 in
+    let leaps-by = c .before .before .before .leaps-by in
+    let args = c .before .before .before .before .before .before .args in
+    let count-of = c .before .count-of in
+    let lowered = c .before .before .lowered in
+    let w = passed (is-list .ensures) (if1 .left) in
+    (omega (arith, leaps-by .ensures .1), lowered .ensures .few, omega arith)
 
 returns-3 : tie.Need-returns-3
 returns-3 c =
-    let args = c .before .before .before .before .before .before .args in
-    let good = c .before .before .before .before .before .before .good in
-    let is-well-formed = c .before .before .before .before .before .is-well-formed in
-    let if1 = c .before .before .before .before .if1 in
-    let leaps-by = c .before .before .before .leaps-by in
+    let args = c .before .before .before .before .before .before .before .args in
+    let is-list = c .before .before .before .before .before .before .is-list in
+    let if1 = c .before .before .before .before .before .if1 in
+    let leaps-by = c .before .before .before .before .leaps-by in
     let if2 = c .before .if2 in
+    let count-of = c .before .before .count-of in
     let survey-by2 = c .survey-by2 in
-    let lowered = c .before .before .lowered in
-    let full : length (args .t1 .leaps) ≡ 256 = simp length-map at (good .0 .1 .1 .0 .1 .0 .1) in
-    let s = args .t1 in
-    let well = passed (is-well-formed .ensures) (if1 .left) in
-    let all : length (leapsOf s) ≤ leaps-by .result = omega (arith, if2 .left, used s full 0 (parts s well .room)) in
+    let lowered = c .before .before .before .lowered in
+    let words = args .words .now in
+    let well = passed (is-list .ensures) (if1 .left) in
+    let all : length (meant words .leaps) ≤ leaps-by .result = omega (arith, if2 .left, count-of .ensures, count-is words well) in
     record {
       well = survey-by2 .ensures .0 ∙ sym well;
-      tallied = λ w i. survey-by2 .ensures .1 s (args .month) w (leaps-by .ensures) (lowered .ensures) (ahead-none all _) i;
+      tallied = λ w i. survey-by2 .ensures .1 (meant words) (args .month) w (leaps-by .ensures .0) (lowered .ensures) (ahead-none all _) i;
     }
 
 pub look-spec : {M : Type 1} → statement M
@@ -130,8 +125,16 @@ look-spec =
     returns
     leaps-by-requires
     lowered-requires
-    mul-l
-    element-copy-out-l
+    (λ c κs. search needs)
+    (λ c. omega arith)
+    (λ c. omega arith)
+    (λ c. search needs)
+    (λ c. omega arith)
+    (λ c. omega arith)
+    (λ c. omega arith)
+    (λ c. search needs)
+    (λ c κs. search needs)
+    cast-survey-by
     survey-by-requires
     returns-2
     survey-by-requires-2

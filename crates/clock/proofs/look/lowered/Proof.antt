@@ -1,49 +1,81 @@
 -- `clock::look::lowered` meets its contract. Assumes nothing.
-use mathlib.Core.Path.{_≡_, ap, _∙_}
+use mathlib.Core.Path.{_≡_, sym, ap, _∙_}
 use Prim.Native.Nat.{_-_, _≤_, _<_}
 use native.Mathlib.Omega.{arith}
-use lib.ListN.{length-take}
-use lib.Seq.{getD-take}
 use borrow.Author.Needs.{needs}
-use Rattle.schedule.specs.Schedule.{noLeap, leapsOf}
+use Rattle.schedule.specs.WordLayout.{countWord, meant}
 use Rattle.clock.specs.Private.{Lowered}
+use Rattle.schedule.proofs.Meant.{count-is, count-room}
+use Rattle.clock.proofs.LaidOut.{leap-meant}
 use Rattle.clock.proofs.Placed.{lowered-none, lowered-one}
 use Rattle.clock.proofs.look.lowered.Statement.{statement}
 use Rattle.clock.proofs.look.lowered.Tie as tie
 
 abbrev Inv-loop : tie.InvT-loop
-Inv-loop n s down₀ i₀ down i = (i ≤ n) × Lowered (leapsOf s) i down
+Inv-loop words n down₀ i₀ down i = (i ≤ n) × Lowered (meant words .leaps) i down
 
 abbrev μ-loop : tie.MeasureT-loop
-μ-loop n s down₀ i₀ down i = n - i
+μ-loop words n down₀ i₀ down i = n - i
 
 loop-holds : tie.Need-loop-holds Inv-loop μ-loop
 loop-holds c =
     let args = c .args in
-    (omega arith, lowered-none (leapsOf (args .t1)))
+    (omega arith, lowered-none (meant (args .words .now) .leaps))
+
+mul-sign-of : tie.Need-mul-sign-of Inv-loop μ-loop
+mul-sign-of c =
+    let loop-test = c .loop-test in
+    let pre = c .before .before .pre in
+    let args = c .before .before .args in
+    omega (arith, loop-test .taken, pre .1, count-is (args .words .now) (pre .0), count-room (args .words .now) (pre .0))
+
+add-sign-of : tie.Need-add-sign-of Inv-loop μ-loop
+add-sign-of c =
+    let loop-test = c .loop-test in
+    let pre = c .before .before .pre in
+    let args = c .before .before .args in
+    omega (arith, loop-test .taken, pre .1, count-is (args .words .now) (pre .0), count-room (args .words .now) (pre .0))
+
+mul-sign-of-2 : tie.Need-mul-sign-of-2 Inv-loop μ-loop
+mul-sign-of-2 c =
+    let loop-test = c .loop-test in
+    let pre = c .before .before .pre in
+    let args = c .before .before .args in
+    omega (arith, loop-test .taken, pre .1, count-is (args .words .now) (pre .0), count-room (args .words .now) (pre .0))
+
+element-copy-out-sign-of : tie.Need-element-copy-out-sign-of Inv-loop μ-loop
+element-copy-out-sign-of c =
+    let args = c .before .before .args in
+    let pre = c .before .before .pre in
+    let room = count-room (args .words .now) (pre .0) in
+    let same = count-is (args .words .now) (pre .0) in
+    let less = pre .1 in
+    search needs
 
 add-down : tie.Need-add-down Inv-loop μ-loop
 add-down c =
-    let loop = c .before .before .before .before .loop in
-    let loop-test = c .before .before .before .loop-test in
-    let pre = c .before .before .before .before .before .pre in
+    let loop = c .before .before .before .before .before .loop in
+    let loop-test = c .before .before .before .before .loop-test in
+    let pre = c .before .before .before .before .before .before .pre in
+    let args = c .before .before .before .before .before .before .args in
     let takes = c .before .takes in
     let wide = c .wide in
-    omega (arith, loop .inv .1 .few, loop-test .taken, pre .1, takes .ensures .1, wide .ensures .0)
+    omega (arith, loop .inv .1 .few, loop-test .taken, pre .1, count-is (args .words .now) (pre .0), count-room (args .words .now) (pre .0), takes .ensures .1, wide .ensures .0)
 
 loop-again : tie.Need-loop-again Inv-loop μ-loop
 loop-again c =
-    let args = c .before .before .before .before .before .args in
-    let loop = c .before .before .before .before .loop in
-    let loop-test = c .before .before .before .loop-test in
-    let pre = c .before .before .before .before .before .pre in
+    let args = c .before .before .before .before .before .before .args in
+    let loop = c .before .before .before .before .before .loop in
+    let loop-test = c .before .before .before .before .loop-test in
+    let pre = c .before .before .before .before .before .before .pre in
+    let sign-of = c .before .before .sign-of in
     let wide = c .wide in
     let takes = c .before .takes in
-    let s = args .t1 in
-    let inside : loop .i < s .count = omega (arith, loop-test .taken, pre .0, length-take (s .count) (s .leaps)) in (
+    let words = args .words .now in
+    let h : loop .i < countWord words = omega (arith, loop-test .taken, pre .1, count-is words (pre .0)) in (
       omega (arith, loop-test .taken),
-      lowered-one (loop .inv .1) (omega (arith, loop-test .taken, pre .0)) _
-          (ap (λ l. l .sign) (getD-take (s .count) (s .leaps) (loop .i) noLeap inside)) (wide .result) (wide .ensures .0 ∙ takes .ensures .0) (omega (arith, wide .ensures .0, takes .ensures .1)),
+      lowered-one (loop .inv .1) (omega (arith, h, count-is words (pre .0))) (sign-of .result)
+          (ap (λ l. l .sign) (leap-meant words (pre .0) (loop .i) h) ∙ sym (sign-of .ensures)) (wide .result) (wide .ensures .0 ∙ takes .ensures .0) (omega (arith, wide .ensures .0, takes .ensures .1)),
     )
 
 returns : tie.Need-returns Inv-loop μ-loop
@@ -61,8 +93,11 @@ lowered-spec =
     Inv-loop
     μ-loop
     loop-holds
-    (λ c. omega arith)
-    (λ c. omega arith)
+    mul-sign-of
+    add-sign-of
+    mul-sign-of-2
+    element-copy-out-sign-of
+    (λ c κs. search needs)
     (λ c κs. search needs)
     (λ c κs. search needs)
     add-down

@@ -5,7 +5,6 @@ use native.Mathlib.Omega.{arith}
 use lib.IntN.{subℕ}
 use borrow.Author.Needs.{needs}
 use Rattle.schedule.specs.declared.Sign.the-variants.{Positive, Negative}
-use Rattle.schedule.specs.Schedule.{leapsOf}
 use Rattle.clock.specs.declared.DtaiAnswer.the-variants.{Given}
 use Rattle.clock.specs.Days.{firstDtai, dtai}
 use Rattle.clock.specs.Private.{tally}
@@ -36,7 +35,7 @@ returns-2 c s f =
     let on = on-date s day tt tt passed in
     let is = f .is (on .well) (on .from) (on .through) in
     let value = dtai-by .ensures ∙ ap₂ (λ u d. subℕ (firstDtai + u) d) (ap (λ k. k .up) is) (ap (λ k. k .down) is) in
-    rw value (ap (λ z. Given z) (minus-kept (firstDtai + tally Positive (leapsOf s) day) (tally Negative (leapsOf s) day) (omega (arith, tally-few s (on .well) Positive day)) (omega (arith, tally-few s (on .well) Negative day)) ∙ sym (dtai-tallied s day)))
+    rw value (ap (λ z. Given z) (minus-kept (firstDtai + tally Positive (s .leaps) day) (tally Negative (s .leaps) day) (omega (arith, tally-few s (on .well) Positive day)) (omega (arith, tally-few s (on .well) Negative day)) ∙ sym (dtai-tallied s day)))
     ∙ sym (ap dtaiAnswer (then-passed (date-then s day (dtai s day)) passed))
 
 pub dtai-on-spec : {M : Type 1} → statement M

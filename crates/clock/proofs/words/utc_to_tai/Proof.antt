@@ -10,8 +10,9 @@ tai-on-requires c κs =
     let args = c .before .before .before .args in
     let day-in = c .day-in in
     let day-before = c .before .day-before in
+    let expiry-of = c .before .before .expiry-of in
     let words = args .words .now in
-    record { by = meant words; day-for = day-in .ensures (λ w. last-meant words w (day-before .result) (day-before .ensures .0)) }
+    record { by = meant words; day-for = day-in .ensures (λ w. last-meant words w (expiry-of .ensures) (day-before .ensures .0)) }
 
 returns : tie.Need-returns
 returns c =
@@ -19,8 +20,9 @@ returns c =
     let tai-on = c .tai-on in
     let day-in = c .before .day-in in
     let day-before = c .before .before .day-before in
+    let expiry-of = c .before .before .before .expiry-of in
     let words = args .words .now in
-    tai-on .ensures (meant words) (day-in .ensures (λ w. last-meant words w (day-before .result) (day-before .ensures .0)))
+    tai-on .ensures (meant words) (day-in .ensures (λ w. last-meant words w (expiry-of .ensures) (day-before .ensures .0)))
 
 pub utc-to-tai-spec : {M : Type 1} → statement M
 utc-to-tai-spec = tie.close (tie.spec (λ c. search needs) (λ c κs. search needs) (λ c κs. search needs) tai-on-requires returns)

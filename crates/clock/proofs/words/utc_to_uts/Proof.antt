@@ -17,9 +17,10 @@ returns c =
     let if2 = c .before .if2 in
     let early-uts = c .early-uts in
     let day-before = c .before .before .before .before .before .day-before in
+    let expiry-of = c .before .before .before .before .before .before .expiry-of in
     let words = args .words .now in
     let well = sym (sym (is-list .ensures) ∙ if2 .taken) in
-    early-uts .ensures (meant words) (record { is-well = well; is-last = λ w. last-meant words w (day-before .result) (day-before .ensures .0) })
+    early-uts .ensures (meant words) (record { is-well = well; is-last = λ w. last-meant words w (expiry-of .ensures) (day-before .ensures .0) })
 
 returns-2 : tie.Need-returns-2
 returns-2 c =
@@ -32,8 +33,9 @@ uts-on-requires c κs =
     let args = c .before .before .before .before .before .args in
     let day-in = c .day-in in
     let day-before = c .before .before .before .day-before in
+    let expiry-of = c .before .before .before .before .expiry-of in
     let words = args .words .now in
-    record { by = meant words; day-for = day-in .ensures (λ w. last-meant words w (day-before .result) (day-before .ensures .0)) }
+    record { by = meant words; day-for = day-in .ensures (λ w. last-meant words w (expiry-of .ensures) (day-before .ensures .0)) }
 
 returns-3 : tie.Need-returns-3
 returns-3 c =
@@ -41,8 +43,9 @@ returns-3 c =
     let uts-on = c .uts-on in
     let day-in = c .before .day-in in
     let day-before = c .before .before .before .before .day-before in
+    let expiry-of = c .before .before .before .before .before .expiry-of in
     let words = args .words .now in
-    uts-on .ensures (meant words) (day-in .ensures (λ w. last-meant words w (day-before .result) (day-before .ensures .0)))
+    uts-on .ensures (meant words) (day-in .ensures (λ w. last-meant words w (expiry-of .ensures) (day-before .ensures .0)))
 
 pub utc-to-uts-spec : {M : Type 1} → statement M
 utc-to-uts-spec =
