@@ -21,7 +21,7 @@ use Rattle.clock.specs.Smoothed.{nanosPerDay, uts, utcOf}
 use Rattle.clock.specs.Known.{lastDay, fullyKnown, taiCutoff, utsCutoff, nanosCutoff, known, knownDate, taiEnd, knownTai}
 use Rattle.clock.specs.Question.{Answer, given, refused, require, firstTai, atInstant, atUtc, dtaiOn, utcToTai, dayOf, taiToUtc, utcToUts, utsToUtc, Question, DTAI, UTC-to-TAI, TAI-to-UTC, UTC-to-UTS, UTS-to-UTC, ask}
 use Rattle.clock.specs.Lists.{Open, Kept}
-use Rattle.clock.specs.Private.{tally}
+use Rattle.clock.specs.Tally.{tally}
 use Rattle.clock.proofs.Tallied.{dtai-tallied}
 use Rattle.clock.proofs.Leaps.{tally-below, ending-below, ending-known}
 use Rattle.clock.proofs.Tai.{length-least, expires-later, ending-last}

@@ -11,13 +11,13 @@ use borrow.Author.Tests.{lt-ltb, le-ltb}
 use Rattle.schedule.specs.declared.Sign.the-variants.{Positive, Negative}
 use Rattle.schedule.specs.Schedule.{Schedule, wellFormed}
 use Rattle.calendar.specs.Calendar.{firstDay}
-use Rattle.clock.specs.declared.days.Ending.{Ending}
-use Rattle.clock.specs.declared.days.Ending.the-variants.{Ordinary, Inserted, Deleted}
+use Rattle.clock.specs.declared.Ending.{Ending}
+use Rattle.clock.specs.declared.Ending.the-variants.{Ordinary, Inserted, Deleted}
 use Rattle.clock.specs.Days.{microsPerDay, firstDtai, ending, dayLength, dtai, tai}
 use Rattle.clock.specs.Smoothed.{smoothing, minus, uts}
 use Rattle.clock.specs.Known.{taiCutoff}
 use Rattle.clock.specs.Question.{given, utcToTai}
-use Rattle.clock.specs.Private.{tally}
+use Rattle.clock.specs.Tally.{tally}
 use Rattle.clock.proofs.Tallied.{plus-negative, plus-times, dtai-tallied, days-exact, tai-tallied}
 use Rattle.clock.proofs.Leaps.{part}
 use Rattle.clock.proofs.Tai.{length-least, deleted-few, tally-after}

@@ -13,7 +13,7 @@ use Rattle.calendar.proofs.Laws.{starts-month}
 use Rattle.schedule.specs.Schedule.{Schedule, wellFormed}
 use Rattle.schedule.proofs.Gaps.{parts}
 use Rattle.schedule.proofs.WordLayout.{within}
-use Rattle.clock.specs.declared.days.Ending.the-variants.{Ordinary}
+use Rattle.clock.specs.declared.Ending.the-variants.{Ordinary}
 use Rattle.clock.specs.Days.{longDay, ending, dayLength, tai}
 use Rattle.clock.specs.Smoothed.{nanosPerDay, uts, utcOf}
 use Rattle.clock.specs.Known.{lastDay, fullyKnown, taiCutoff, utsCutoff, nanosCutoff, taiEnd}

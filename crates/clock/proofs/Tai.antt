@@ -14,12 +14,12 @@ use Rattle.schedule.specs.declared.Sign.the-variants.{Positive, Negative}
 use Rattle.schedule.specs.Schedule.{Leap, Schedule, maxLeaps, wellFormed}
 use Rattle.schedule.specs.Extends.{sameSign}
 use Rattle.schedule.proofs.Gaps.{parts, before-end}
-use Rattle.clock.specs.declared.days.Ending.{Ending}
-use Rattle.clock.specs.declared.days.Ending.the-variants.{Ordinary, Inserted, Deleted}
+use Rattle.clock.specs.declared.Ending.{Ending}
+use Rattle.clock.specs.declared.Ending.the-variants.{Ordinary, Inserted, Deleted}
 use Rattle.clock.specs.Days.{microsPerDay, longDay, shortDay, ending, dayLength, tai}
 use Rattle.clock.specs.Known.{lastDay}
 use Rattle.clock.specs.Question.{firstTai}
-use Rattle.clock.specs.Private.{count, tally, mostDtai}
+use Rattle.clock.specs.Tally.{count, tally}
 use Rattle.clock.proofs.Tallied.{tai-tallied}
 use Rattle.clock.proofs.Leaps.{ending-none, tally-none, tally-next, part}
 
@@ -90,7 +90,7 @@ module _ (s : Schedule) (w : wellFormed s ≡ true) where
   pub tai-low : (day : ℕ) → firstDay ≤ day → microsPerDay * (day - firstDay) ≤ tai s day 0 + 246_000_000
   tai-low day i = omega (arith, tai-tallied s day 0 i, deleted-few day i, tally-few Negative day)
 
-  pub tai-high : (day : ℕ) → firstDay ≤ day → tai s day 0 ≤ microsPerDay * (day - firstDay) + mostDtai
+  pub tai-high : (day : ℕ) → firstDay ≤ day → tai s day 0 ≤ microsPerDay * (day - firstDay) + 266_000_000
   tai-high day i = omega (arith, tai-tallied s day 0 i, tally-few Positive day)
 
   -- TAI counts the day's microseconds

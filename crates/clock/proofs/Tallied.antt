@@ -16,7 +16,7 @@ use Rattle.schedule.specs.declared.Sign.the-variants.{Positive, Negative}
 use Rattle.schedule.specs.Schedule.{Leap, Schedule}
 use Rattle.schedule.specs.Extends.{sameSign}
 use Rattle.clock.specs.Days.{microsPerSecond, microsPerDay, firstDtai, inEffect, secondOf, leapSeconds, dtai, natural, tai}
-use Rattle.clock.specs.Private.{count, tally}
+use Rattle.clock.specs.Tally.{count, tally}
 
 -- ---- differences of two numbers
 
