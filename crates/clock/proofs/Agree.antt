@@ -12,8 +12,7 @@ use Rattle.refusals.specs.Refusals.{before1972, noInstant, notKnown, notWellFor
 use Rattle.calendar.specs.Calendar.{firstDay}
 use Rattle.schedule.specs.declared.Sign.{Sign}
 use Rattle.schedule.specs.declared.Sign.the-variants.{Positive, Negative}
-use Rattle.schedule.specs.declared.Schedule.{Schedule}
-use Rattle.schedule.specs.Schedule.{leapsOf, wellFormed}
+use Rattle.schedule.specs.Schedule.{Schedule, wellFormed}
 use Rattle.schedule.specs.Extends.{Extends}
 use Rattle.schedule.proofs.Cases.{by-bool}
 use Rattle.schedule.proofs.Gaps.{parts}
@@ -22,7 +21,7 @@ use Rattle.clock.specs.Smoothed.{nanosPerDay, uts, utcOf}
 use Rattle.clock.specs.Known.{lastDay, fullyKnown, taiCutoff, utsCutoff, nanosCutoff, known, knownDate, taiEnd, knownTai}
 use Rattle.clock.specs.Question.{Answer, given, refused, require, firstTai, atInstant, atUtc, dtaiOn, utcToTai, dayOf, taiToUtc, utcToUts, utsToUtc, Question, DTAI, UTC-to-TAI, TAI-to-UTC, UTC-to-UTS, UTS-to-UTC, ask}
 use Rattle.clock.specs.Lists.{Open, Kept}
-use Rattle.clock.specs.Private.{tally}
+use Rattle.clock.specs.Tally.{tally}
 use Rattle.clock.proofs.Tallied.{dtai-tallied}
 use Rattle.clock.proofs.Leaps.{tally-below, ending-below, ending-known}
 use Rattle.clock.proofs.Tai.{length-least, expires-later, ending-last}
@@ -72,9 +71,9 @@ module _ (L S : Schedule) (longer : Extends L S) (wL : wellFormed L ≡ true) (w
   last-later : lastDay S ≤ lastDay L
   last-later = omega (arith, longer .later)
 
-  tally-same : (sign : Sign) (day : ℕ) → day ≤ lastDay S → tally sign (leapsOf L) day ≡ tally sign (leapsOf S) day
+  tally-same : (sign : Sign) (day : ℕ) → day ≤ lastDay S → tally sign (L .leaps) day ≡ tally sign (S .leaps) day
   tally-same sign day h =
-      sym (tally-below sign (S .expiry) day (leapsOf L) (omega (arith, expires-later S wS))) ∙ ap (λ ls. tally sign ls day) (longer .same)
+      sym (tally-below sign (S .expiry) day (L .leaps) (omega (arith, expires-later S wS))) ∙ ap (λ ls. tally sign ls day) (longer .same)
 
   dtai-same : (day : ℕ) → day ≤ lastDay S → dtai L day ≡ dtai S day
   dtai-same day h = rw (dtai-tallied L day, dtai-tallied S day, tally-same Positive day h, tally-same Negative day h)
@@ -84,7 +83,7 @@ module _ (L S : Schedule) (longer : Extends L S) (wL : wellFormed L ≡ true) (w
   tai-same day t h = rw (dtai-same day h)
 
   ending-earlier : (day : ℕ) → day < lastDay S → ending L day ≡ ending S day
-  ending-earlier day h = sym (ending-below (S .expiry) (day + 1) (leapsOf L) (omega arith)) ∙ ap (λ ls. endingBefore ls (day + 1)) (longer .same)
+  ending-earlier day h = sym (ending-below (S .expiry) (day + 1) (L .leaps) (omega arith)) ∙ ap (λ ls. endingBefore ls (day + 1)) (longer .same)
 
   -- where the last day is fully known, neither list has a leap at its end
   ending-same : (day : ℕ) → day < wholeTo (lastDay S) → ending L day ≡ ending S day
@@ -94,7 +93,7 @@ module _ (L S : Schedule) (longer : Extends L S) (wL : wellFormed L ≡ true) (w
         | no l ↦
             let e : day ≡ lastDay S = omega (arith, whole-near (lastDay S)) in
             by-bool (fullyKnown (lastDay S))
-            (λ k. rw e (ending-known (lastDay S) 0 (leapsOf L) (L .expiry) k (parts L wL .gaps) (parts L wL .end) ∙ sym (ending-last S wS)))
+            (λ k. rw e (ending-known (lastDay S) 0 (L .leaps) (L .expiry) k (parts L wL .gaps) (parts L wL .end) ∙ sym (ending-last S wS)))
             (λ k. absurd (omega (arith, whole-open (lastDay S) k)))
       ]
 

@@ -8,9 +8,9 @@ use native.Mathlib.Omega.{arith}
 use lib.Dec.{leb}
 use borrow.Author.Tests.{leb-true, leb-false, le-leb, lt-leb}
 use Rattle.calendar.proofs.Greatest.{Greatest, greatest-found, greatest-is}
-use Rattle.schedule.specs.declared.Schedule.{Schedule}
-use Rattle.clock.specs.declared.days.Ending.{Ending}
-use Rattle.clock.specs.declared.days.Ending.the-variants.{Ordinary, Inserted, Deleted}
+use Rattle.schedule.specs.Schedule.{Schedule}
+use Rattle.clock.specs.declared.Ending.{Ending}
+use Rattle.clock.specs.declared.Ending.the-variants.{Ordinary, Inserted, Deleted}
 use Rattle.clock.specs.Days.{ending, dayLength}
 use Rattle.clock.specs.Smoothed.{nanosPerDay, uts, utcOf}
 use Rattle.clock.specs.Known.{lastDay, utsCutoff, nanosCutoff}

@@ -15,15 +15,13 @@ use Rattle.calendar.specs.Calendar.{firstDay, monthStart}
 use Rattle.calendar.proofs.Laws.{start-zero, start-lt}
 use Rattle.schedule.specs.declared.Sign.{Sign}
 use Rattle.schedule.specs.declared.Sign.the-variants.{Positive, Negative}
-use Rattle.schedule.specs.declared.Leap.{Leap}
-use Rattle.schedule.specs.declared.Schedule.{Schedule}
-use Rattle.schedule.specs.Schedule.{leapsOf, gapsFit, wellFormed}
+use Rattle.schedule.specs.Schedule.{Leap, Schedule, gapsFit, wellFormed}
 use Rattle.schedule.specs.Extends.{sameSign, below, Extends}
 use Rattle.schedule.proofs.Gaps.{fits-lt, first, later, before-end, parts}
 use Rattle.schedule.proofs.Expired.{is-expired, not-expired}
 use Rattle.schedule.proofs.Extension.{below-none}
 use Rattle.clock.specs.Days.{firstDtai, dtai}
-use Rattle.clock.specs.Private.{count, tally}
+use Rattle.clock.specs.Tally.{count, tally}
 use Rattle.clock.proofs.Tallied.{dtai-tallied}
 use Rattle.clock.specs.Known.{lastDay}
 use Rattle.clock.specs.Question.{given, DTAI, ask}
@@ -185,9 +183,9 @@ dtai-given s day w h i = pass notWellFormed w ∙ pass before1972 (le-leb firstD
 
 extends-or-parted : (s s′ : Schedule) → wellFormed s ≡ true → wellFormed s′ ≡ true → Extends s′ s ⊎ (Extends s s′ ⊎ Parted s s′)
 unfolding Outcome
-extends-or-parted s s′ w w′ = go (compare 0 (leapsOf s) (leapsOf s′) (s .expiry) (s′ .expiry) (parts s w .gaps) (parts s′ w′ .gaps))
+extends-or-parted s s′ w w′ = go (compare 0 (s .leaps) (s′ .leaps) (s .expiry) (s′ .expiry) (parts s w .gaps) (parts s′ w′ .gaps))
   where
-    go : Outcome 0 (leapsOf s) (leapsOf s′) (s .expiry) (s′ .expiry) → Extends s′ s ⊎ (Extends s s′ ⊎ Parted s s′)
+    go : Outcome 0 (s .leaps) (s′ .leaps) (s .expiry) (s′ .expiry) → Extends s′ s ⊎ (Extends s s′ ⊎ Parted s s′)
     go (inl p) = inl (record { same = p .0; later = p .1 })
     go (inr (inl p)) = inr (inl (record { same = p .0; later = p .1 }))
     go (inr (inr r)) =
@@ -199,7 +197,7 @@ extends-or-parted s s′ w w′ = go (compare 0 (leapsOf s) (leapsOf s′) (s .e
           first = dtai-given s (r .day) w from (r .before);
           second = dtai-given s′ (r .day) w′ from (r .before′);
           differ = λ e. r .apart
-              (omega (arith, minus-same (firstDtai + tally Positive (leapsOf s) (r .day)) (tally Negative (leapsOf s) (r .day)) (firstDtai + tally Positive (leapsOf s′) (r .day)) (tally Negative (leapsOf s′) (r .day)) (sym (dtai-tallied s (r .day)) ∙ e ∙ dtai-tallied s′ (r .day))));
+              (omega (arith, minus-same (firstDtai + tally Positive (s .leaps) (r .day)) (tally Negative (s .leaps) (r .day)) (firstDtai + tally Positive (s′ .leaps) (r .day)) (tally Negative (s′ .leaps) (r .day)) (sym (dtai-tallied s (r .day)) ∙ e ∙ dtai-tallied s′ (r .day))));
         }))
 
 not-parted : (s s′ : Schedule) → Agreed s s′ → Parted s s′ → ⊥

@@ -9,16 +9,15 @@ use lib.Dec.{ltb}
 use lib.IntN.{ℤ, pos, negsuc, subℕ, negℤ-negℤ, _+ℤ_, _-ℤ_, _*ℤ_}
 use borrow.Author.Tests.{lt-ltb, le-ltb}
 use Rattle.schedule.specs.declared.Sign.the-variants.{Positive, Negative}
-use Rattle.schedule.specs.declared.Schedule.{Schedule}
-use Rattle.schedule.specs.Schedule.{leapsOf, wellFormed}
+use Rattle.schedule.specs.Schedule.{Schedule, wellFormed}
 use Rattle.calendar.specs.Calendar.{firstDay}
-use Rattle.clock.specs.declared.days.Ending.{Ending}
-use Rattle.clock.specs.declared.days.Ending.the-variants.{Ordinary, Inserted, Deleted}
+use Rattle.clock.specs.declared.Ending.{Ending}
+use Rattle.clock.specs.declared.Ending.the-variants.{Ordinary, Inserted, Deleted}
 use Rattle.clock.specs.Days.{microsPerDay, firstDtai, ending, dayLength, dtai, tai}
 use Rattle.clock.specs.Smoothed.{smoothing, minus, uts}
 use Rattle.clock.specs.Known.{taiCutoff}
 use Rattle.clock.specs.Question.{given, utcToTai}
-use Rattle.clock.specs.Private.{tally}
+use Rattle.clock.specs.Tally.{tally}
 use Rattle.clock.proofs.Tallied.{plus-negative, plus-times, dtai-tallied, days-exact, tai-tallied}
 use Rattle.clock.proofs.Leaps.{part}
 use Rattle.clock.proofs.Tai.{length-least, deleted-few, tally-after}
@@ -38,15 +37,15 @@ minus-more a b =
 
 -- only a day with an inserted second has a microsecond 86,400,000,000
 inserted-after : (s : Schedule) (day t : ℕ) → wellFormed s ≡ true → microsPerDay ≤ t → (w : Ending) → t < dayLength w
-    → tally Positive (leapsOf s) (day + 1) ≡ tally Positive (leapsOf s) day + part Positive w
-    → tally Negative (leapsOf s) (day + 1) ≡ tally Negative (leapsOf s) day + part Negative w → dtai s (day + 1) ≡ dtai s day +ℤ pos 1
+    → tally Positive (s .leaps) (day + 1) ≡ tally Positive (s .leaps) day + part Positive w
+    → tally Negative (s .leaps) (day + 1) ≡ tally Negative (s .leaps) day + part Negative w → dtai s (day + 1) ≡ dtai s day +ℤ pos 1
 inserted-after s day t v i Ordinary h p q = absurd (omega arith)
 inserted-after s day t v i Inserted h p q =
-    let up : firstDtai + tally Positive (leapsOf s) (day + 1) ≡ firstDtai + tally Positive (leapsOf s) day + 1 = omega arith in
-    let down : tally Negative (leapsOf s) (day + 1) ≡ tally Negative (leapsOf s) day = omega arith in
+    let up : firstDtai + tally Positive (s .leaps) (day + 1) ≡ firstDtai + tally Positive (s .leaps) day + 1 = omega arith in
+    let down : tally Negative (s .leaps) (day + 1) ≡ tally Negative (s .leaps) day = omega arith in
     dtai-tallied s (day + 1)
     ∙ ap₂ subℕ up down
-    ∙ minus-more (firstDtai + tally Positive (leapsOf s) day) (tally Negative (leapsOf s) day)
+    ∙ minus-more (firstDtai + tally Positive (s .leaps) day) (tally Negative (s .leaps) day)
     ∙ ap (λ z. z +ℤ pos 1) (sym (dtai-tallied s day))
 inserted-after s day t v i Deleted h p q = absurd (omega arith)
 
@@ -66,7 +65,7 @@ pub tai-exact : (s : Schedule) (day t : ℕ) → wellFormed s ≡ true → 41_31
     → pos (tai s day t) ≡ pos 86_400_000_000 *ℤ (pos day -ℤ pos 41_317) +ℤ pos t +ℤ pos 1_000_000 *ℤ dtai s day
 tai-exact s day t w i =
     ap pos (tai-tallied s day t i)
-    ∙ plus-times (microsPerDay * (day - firstDay) + t) (firstDtai + tally Positive (leapsOf s) day) (tally Negative (leapsOf s) day)
+    ∙ plus-times (microsPerDay * (day - firstDay) + t) (firstDtai + tally Positive (s .leaps) day) (tally Negative (s .leaps) day)
     (omega (arith, deleted-few s w day i))
     ∙ ap₂ (λ x z. x +ℤ pos 1_000_000 *ℤ z) (sym (days-exact day t i)) (sym (dtai-tallied s day))
 

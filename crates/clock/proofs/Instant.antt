@@ -11,15 +11,13 @@ use borrow.Author.Tests.{ltb-true, leb-true, leb-false, lt-ltb, le-ltb, le-leb, 
 use Rattle.refusals.specs.Refusals.{before1972, notKnown, notWellFormed}
 use Rattle.calendar.specs.Calendar.{firstDay}
 use Rattle.calendar.proofs.Greatest.{Greatest, greatest-found, greatest-is}
-use Rattle.schedule.specs.declared.Schedule.{Schedule}
-use Rattle.schedule.specs.Schedule.{wellFormed}
+use Rattle.schedule.specs.Schedule.{Schedule, wellFormed}
 use Rattle.schedule.proofs.Cases.{by-bool}
 use Rattle.clock.specs.Days.{microsPerDay, ending, dayLength, tai}
 use Rattle.clock.specs.Known.{lastDay, fullyKnown, taiCutoff, knownTo, taiEnd, knownTai}
-use Rattle.clock.specs.Question.{given, require, Utc, firstTai, utcToTai, dayOf, taiToUtc}
-use Rattle.clock.specs.Private.{mostDtai, nearDay, onDay}
-use Rattle.clock.proofs.Tai.{length-least, expires-later, ending-last, tai-low, tai-high, tai-in-day, tai-first, tai-next, tai-order, tai-rises}
-use Rattle.clock.proofs.Checks.{Sure, wholeTo, whole-open, whole-shut, whole-near, known-whole, known-before, known-last, known-after, known-sure, sure-through, pass, stop, on-utc, utc-answered, required, given-is}
+use Rattle.clock.specs.Question.{given, Utc, firstTai, utcToTai, dayOf, taiToUtc}
+use Rattle.clock.proofs.Tai.{expires-later, ending-last, tai-in-day, tai-first, tai-next, tai-order, tai-rises}
+use Rattle.clock.proofs.Checks.{Sure, wholeTo, whole-open, whole-shut, whole-near, known-whole, known-before, known-last, known-sure, sure-through, on-utc, utc-answered, required, given-is}
 
 -- x is the TAI of an instant that the schedule knows
 pub record Instant (s : Schedule) (x day t : ℕ) : Type 0 where
@@ -33,16 +31,16 @@ module _ (s : Schedule) (w : wellFormed s ≡ true) where
   last-from = omega (arith, expires-later s w)
 
   -- the TAI from which on nothing is known, where the last day is not fully known, and where it is
-  end-open : fullyKnown (lastDay s) ≡ false → taiEnd s ≡ tai s (lastDay s) 0 + taiCutoff
+  pub end-open : fullyKnown (lastDay s) ≡ false → taiEnd s ≡ tai s (lastDay s) 0 + taiCutoff
   unfolding taiEnd
   end-open m = rw m (tai-in-day s w (lastDay s) taiCutoff last-from)
 
-  end-shut : fullyKnown (lastDay s) ≡ true → taiEnd s ≡ tai s (lastDay s) 0 + microsPerDay
+  pub end-shut : fullyKnown (lastDay s) ≡ true → taiEnd s ≡ tai s (lastDay s) 0 + microsPerDay
   unfolding taiEnd
   end-shut m = rw m (tai-in-day s w (lastDay s) microsPerDay last-from)
 
   -- in either case after the last day's first 86,399 s, which are no more than the whole day
-  end-from : (tai s (lastDay s) 0 + taiCutoff ≤ taiEnd s) × (dayLength (ending s (lastDay s)) ≡ microsPerDay)
+  pub end-from : (tai s (lastDay s) 0 + taiCutoff ≤ taiEnd s) × (dayLength (ending s (lastDay s)) ≡ microsPerDay)
   end-from =
       (by-bool (fullyKnown (lastDay s)) (λ k. omega (arith, end-shut k)) (λ k. omega (arith, end-open k)), ap dayLength (ending-last s w))
 
@@ -116,8 +114,8 @@ module _ (s : Schedule) (w : wellFormed s ≡ true) where
         ]
 
     -- where x lies within its day, whether it is known is whether its microsecond of the day is
-    known-is : x < tai s (dayOf s x) 0 + dayLength (ending s (dayOf s x)) → knownTo (lastDay s) taiCutoff (dayOf s x) (x - tai s (dayOf s x) 0) ≡ knownTai s x
-    known-is inside =
+    pub known-in-day : x < tai s (dayOf s x) 0 + dayLength (ending s (dayOf s x)) → knownTo (lastDay s) taiCutoff (dayOf s x) (x - tai s (dayOf s x) 0) ≡ knownTai s x
+    known-in-day inside =
         elim (decLt (dayOf s x) (lastDay s)) [
           | yes l ↦
               known-before (lastDay s) taiCutoff (dayOf s x) _ l
@@ -151,52 +149,8 @@ module _ (s : Schedule) (w : wellFormed s ≡ true) where
           from = day-from;
           is = omega arith;
           below = omega arith;
-          sure = known-sure (lastDay s) taiCutoff (dayOf s x) (x - tai s (dayOf s x) 0) (known-is inside ∙ lt-ltb x (taiEnd s) i);
+          sure = known-sure (lastDay s) taiCutoff (dayOf s x) (x - tai s (dayOf s x) 0) (known-in-day inside ∙ lt-ltb x (taiEnd s) i);
         }
-
-    -- the answer, by the day of x and its start
-    pub utc-answer : (day start : ℕ) → day ≡ dayOf s x → start ≡ tai s day 0 → x < tai s day 0 + dayLength (ending s day) → onDay day (x - start) (lastDay s) ≡ taiToUtc s x
-    utc-answer day start e b inside =
-        let z : start ≡ tai s (dayOf s x) 0 = b ∙ ap (λ d. tai s d 0) e in
-        rw (e, z) (ap (λ t. require t notKnown (given (record { day = dayOf s x; micros = x - tai s (dayOf s x) 0 }))) (known-is (rw e at inside)))
-        ∙ sym (pass notWellFormed w ∙ pass before1972 (le-leb firstTai x h))
-
-    -- past the last day
-    pub utc-past : (t : ℕ) → tai s (lastDay s) 0 + dayLength (ending s (lastDay s)) ≤ x → onDay (lastDay s + 1) t (lastDay s) ≡ taiToUtc s x
-    utc-past t past =
-        let late : taiEnd s ≤ x = by-bool (fullyKnown (lastDay s)) (λ k. omega (arith, end-shut k, end-from .1)) (λ k. omega (arith, end-open k, end-from .1)) in
-        stop _ notKnown (known-after (lastDay s) taiCutoff (lastDay s + 1) t (omega arith))
-        ∙ sym (pass notWellFormed w ∙ pass before1972 (le-leb firstTai x h) ∙ stop _ notKnown (le-ltb x (taiEnd s) late))
-
-    -- ---- the day near x has begun by x, and x lies on it or on the next
-    module _ (near : ℕ) (n : near ≡ nearDay x (lastDay s)) where
-      pub near-from : firstDay ≤ near
-      near-from = omega (arith, last-from)
-
-      pub near-begun : tai s near 0 ≤ x
-      near-begun =
-          elim (decLt x mostDtai) [
-            | yes l ↦ let z : near ≡ firstDay = omega (arith, last-from) in rw z (omega (arith, tai-first s w))
-            | no l ↦ omega (arith, tai-high s w near near-from)
-          ]
-
-      is-day : (day : ℕ) → day ≤ lastDay s → tai s day 0 ≤ x → ((j : ℕ) → day < j → j ≤ lastDay s → x < tai s j 0) → day ≡ dayOf s x
-      is-day day a b f = sym (greatest-is (record { within = a; passes = le-leb (tai s day 0) x b; above = λ j p q. lt-leb (tai s j 0) x (f j p q) }))
-
-      pub near-stays : (near < lastDay s → x < tai s near 0 + dayLength (ending s near)) → near ≡ dayOf s x
-      near-stays k =
-          is-day near (omega arith) near-begun (λ j a b. omega (arith, k (omega arith), tai-rises s w near j near-from a))
-
-      pub near-steps : near < lastDay s → tai s near 0 + dayLength (ending s near) ≤ x → near + 1 ≡ dayOf s x
-      near-steps l k =
-          let from = near-from in
-          is-day (near + 1) (omega arith) (omega (arith, tai-next s w near near-from)) (λ j a b. omega (arith, tai-low s w j (omega arith)))
-
-      -- on the next day it lies early
-      pub near-inside : near < lastDay s → x < tai s (near + 1) 0 + dayLength (ending s (near + 1))
-      near-inside l =
-          let from = near-from in
-          omega (arith, tai-low s w (near + 1) (omega arith), length-least (ending s (near + 1)))
 
   -- ---- the two questions
 

@@ -10,11 +10,10 @@ use borrow.Author.Tests.{le-leb, lt-ltb, le-ltb, ne-eqb}
 use Rattle.refusals.specs.Refusals.{before1972, noInstant, notKnown, notWellFormed}
 use Rattle.calendar.specs.Calendar.{firstDay, monthStart, monthOf, startsMonth}
 use Rattle.calendar.proofs.Laws.{starts-month}
-use Rattle.schedule.specs.declared.Schedule.{Schedule}
-use Rattle.schedule.specs.Schedule.{wellFormed}
+use Rattle.schedule.specs.Schedule.{Schedule, wellFormed}
 use Rattle.schedule.proofs.Gaps.{parts}
 use Rattle.schedule.proofs.WordLayout.{within}
-use Rattle.clock.specs.declared.days.Ending.the-variants.{Ordinary}
+use Rattle.clock.specs.declared.Ending.the-variants.{Ordinary}
 use Rattle.clock.specs.Days.{longDay, ending, dayLength, tai}
 use Rattle.clock.specs.Smoothed.{nanosPerDay, uts, utcOf}
 use Rattle.clock.specs.Known.{lastDay, fullyKnown, taiCutoff, utsCutoff, nanosCutoff, taiEnd}

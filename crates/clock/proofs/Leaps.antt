@@ -12,17 +12,16 @@ use Rattle.calendar.specs.Calendar.{monthStart, startsMonth}
 use Rattle.calendar.proofs.Laws.{start-lt, no-start}
 use Rattle.schedule.specs.declared.Sign.{Sign}
 use Rattle.schedule.specs.declared.Sign.the-variants.{Positive, Negative}
-use Rattle.schedule.specs.declared.Leap.{Leap}
-use Rattle.schedule.specs.Schedule.{endDay, isExpired, gapsFit}
+use Rattle.schedule.specs.Schedule.{Leap, endDay, isExpired, gapsFit}
 use Rattle.schedule.specs.Extends.{sameSign, below}
 use Rattle.schedule.proofs.Gaps.{fits-lt, first, later, before-end}
 use Rattle.schedule.proofs.WordLayout.{within}
 use Rattle.schedule.proofs.Expired.{expired-from}
-use Rattle.clock.specs.declared.days.Ending.{Ending}
-use Rattle.clock.specs.declared.days.Ending.the-variants.{Ordinary, Inserted, Deleted}
+use Rattle.clock.specs.declared.Ending.{Ending}
+use Rattle.clock.specs.declared.Ending.the-variants.{Ordinary, Inserted, Deleted}
 use Rattle.clock.specs.Known.{fullyKnown}
 use Rattle.clock.specs.Days.{endingOf, endingBefore}
-use Rattle.clock.specs.Private.{count, tally}
+use Rattle.clock.specs.Tally.{count, tally}
 
 -- a leap that takes effect after the day is not counted
 pub not-yet : (sign : Sign) (l : Leap) (day : ℕ) → day < monthStart (l .month) → count (sameSign sign (l .sign) && leb (monthStart (l .month)) day) ≡ 0

@@ -1,6 +1,7 @@
 -- The laws of the clock. Those that the demands name stand last in their modules.
 pub mod Tallied
 pub mod Leaps
+pub mod Placed
 pub mod Tai
 pub mod Uts
 pub mod Checks
@@ -13,10 +14,3 @@ pub mod LastDay
 pub mod Agree
 pub mod Differ
 pub mod Numbers
-pub mod Places
-pub mod LaidOut
-pub mod Placed
-pub mod Stretched
-pub mod Preparing
-pub mod Filled
-pub mod Signed

@@ -3,28 +3,25 @@
 use mathlib.Core.Bool.{true, and-true}
 use mathlib.Core.List.{List, [], _∷_, _++_}
 use mathlib.Core.Logic.{⊎-elim, _≢_}
-use mathlib.Core.Path.{_≡_, refl, sym, ap, _∙_}
+use mathlib.Core.Path.{_≡_, refl, ap, _∙_}
 use Prim.Native.Nat.{ℕ, zero, suc, _+_, _-_, _≤_, _<_}
 use native.Mathlib.Decide.{decLt}
 use native.Mathlib.Nat.{not-suc-le-zero, le-of-suc-le-suc, eq-or-lt-of-le}
 use native.Mathlib.Numerals.{add-one}
 use native.Mathlib.Omega.{arith}
 use lib.ListN.{length, getD, take}
-use lib.Seq.{take-nil, take-suc, length-take-le}
+use lib.Seq.{take-nil, take-suc}
 use borrow.Author.Tests.{le-leb, ne-eqb, eq-eqb}
-use Rattle.calendar.specs.Calendar.{monthStart, InMonth}
-use Rattle.calendar.proofs.Laws.{start-zero, start-from, start-lt, start-le}
+use Rattle.calendar.specs.Calendar.{monthStart}
+use Rattle.calendar.proofs.Laws.{start-lt}
 use Rattle.schedule.specs.declared.Sign.{Sign}
 use Rattle.schedule.specs.declared.Sign.the-variants.{Positive, Negative}
-use Rattle.schedule.specs.declared.Leap.{Leap}
-use Rattle.schedule.specs.declared.Schedule.{Schedule}
-use Rattle.schedule.specs.Schedule.{noLeap, leapsOf, gapsFit, wellFormed}
+use Rattle.schedule.specs.Schedule.{Leap, Schedule, noLeap, gapsFit, wellFormed}
 use Rattle.schedule.specs.Extends.{sameSign}
 use Rattle.schedule.proofs.Gaps.{fits-lt, first, later, parts}
-use Rattle.clock.specs.declared.look.Survey.{Survey}
-use Rattle.clock.specs.declared.days.Ending.the-variants.{Ordinary}
+use Rattle.clock.specs.declared.Ending.the-variants.{Ordinary}
 use Rattle.clock.specs.Days.{endingOf, endingBefore, ending}
-use Rattle.clock.specs.Private.{count, tally, ofSign, ByMonth, Lowered, Ahead, TalliedOn}
+use Rattle.clock.specs.Tally.{count, tally, ofSign}
 use Rattle.clock.proofs.Leaps.{not-yet, tally-none}
 
 -- ---- leaps in their order
@@ -62,7 +59,7 @@ one-sign Positive = refl
 one-sign Negative = refl
 
 -- every leap is of one sign
-both-signs : (ls : List Leap) → ofSign Positive ls + ofSign Negative ls ≡ length ls
+pub both-signs : (ls : List Leap) → ofSign Positive ls + ofSign Negative ls ≡ length ls
 both-signs [] = refl
 both-signs (l ∷ ls) = omega (arith, one-sign (l .sign), both-signs ls)
 
@@ -86,8 +83,8 @@ tally-placed sign (l ∷ ls) from expiry day (suc n) f p =
     (ap (λ m. count (sameSign sign (l .sign)) + m) (tally-placed sign ls (l .month) expiry day n (later from l ls expiry f) rest))
 
 -- the leaps in effect on a day tell its tallies
-pub tally-by : (s : Schedule) → wellFormed s ≡ true → {day n : ℕ} → Placed (leapsOf s) day n → (sign : Sign) → tally sign (leapsOf s) day ≡ ofSign sign (take n (leapsOf s))
-tally-by s w {day} {n} here sign = tally-placed sign (leapsOf s) 0 (s .expiry) day n (parts s w .gaps) here
+pub tally-by : (s : Schedule) → wellFormed s ≡ true → {day n : ℕ} → Placed (s .leaps) day n → (sign : Sign) → tally sign (s .leaps) day ≡ ofSign sign (take n (s .leaps))
+tally-by s w {day} {n} here sign = tally-placed sign (s .leaps) 0 (s .expiry) day n (parts s w .gaps) here
 
 -- ---- how the day ends
 
@@ -108,11 +105,11 @@ ending-at (l ∷ ls) from expiry f (suc n) h =
     rw (ne-eqb (monthStart (l .month)) (monthStart (leapMonth ls n)) (λ e. omega arith)) (ending-at ls (l .month) expiry rest n (le-of-suc-le-suc h))
 
 -- of the leaps on a day only the next one can take effect on the next day
-pub ending-same : (s : Schedule) → wellFormed s ≡ true → {day n : ℕ} → Placed (leapsOf s) day n
-    → (n < length (leapsOf s) → monthStart (leapMonth (leapsOf s) n) ≡ day + 1 → ⊥) → ending s day ≡ Ordinary
-ending-same s w {day} {n} p ne = ending-usual (leapsOf s) (day + 1) other
+pub ending-same : (s : Schedule) → wellFormed s ≡ true → {day n : ℕ} → Placed (s .leaps) day n
+    → (n < length (s .leaps) → monthStart (leapMonth (s .leaps) n) ≡ day + 1 → ⊥) → ending s day ≡ Ordinary
+ending-same s w {day} {n} p ne = ending-usual (s .leaps) (day + 1) other
   where
-    other : (i : ℕ) → i < length (leapsOf s) → monthStart (leapMonth (leapsOf s) i) ≢ day + 1
+    other : (i : ℕ) → i < length (s .leaps) → monthStart (leapMonth (s .leaps) i) ≢ day + 1
     other i h e =
         elim (decLt i n) [
           | yes l ↦ omega (arith, p .begun i l)
@@ -120,101 +117,10 @@ ending-same s w {day} {n} p ne = ending-usual (leapsOf s) (day + 1) other
               let o : n ≤ i = omega arith in
               ⊎-elim (λ (z : n ≡ i). ne (omega arith) (rw z e))
               (λ (k : n < i).
-              omega (arith, p .not-begun (omega arith), start-lt (in-order (leapsOf s) 0 (s .expiry) (parts s w .gaps) n i k h)))
+              omega (arith, p .not-begun (omega arith), start-lt (in-order (s .leaps) 0 (s .expiry) (parts s w .gaps) n i k h)))
               (eq-or-lt-of-le o)
         ]
 
-pub ending-next : (s : Schedule) → wellFormed s ≡ true → (day n : ℕ) → n < length (leapsOf s) → monthStart (leapMonth (leapsOf s) n) ≡ day + 1
-    → ending s day ≡ endingOf (getD (leapsOf s) n noLeap .sign)
-ending-next s w day n h e = rw (← e) (ending-at (leapsOf s) 0 (s .expiry) (parts s w .gaps) n h)
-
--- ---- by the month of the day
-
--- a search from the last leap back: those from n on lie after the month
-pub record Beyond (ls : List Leap) (month n : ℕ) : Type 0 where
-  pub room : n ≤ length ls
-  pub after : (i : ℕ) → n ≤ i → i < length ls → month < leapMonth ls i
-
-pub beyond-none : {ls : List Leap} {month n : ℕ} → n ≡ length ls → Beyond ls month n
-beyond-none e = record { room = omega arith; after = λ i a b. absurd (omega arith) }
-
-pub beyond-one : {ls : List Leap} {month n : ℕ} → Beyond ls month n → 0 < n → month < leapMonth ls (n - 1) → Beyond ls month (n - 1)
-beyond-one {ls} {month} {n} p h l =
-    record {
-      room = omega (arith, p .room);
-      after = λ i a b.
-          ⊎-elim (λ (z : n - 1 ≡ i). rw (← z) l) (λ (k : n - 1 < i). p .after i (omega arith) b) (eq-or-lt-of-le a);
-    }
-
--- it ends at a leap that lies at the month or before it, or before the first
-pub beyond-found : {ls : List Leap} {month n : ℕ} → Beyond ls month n → (expiry : ℕ) → gapsFit 0 ls expiry ≡ true → leapMonth ls (n - 1) ≤ month → ByMonth ls month n
-beyond-found {ls} {month} {n} p expiry f l =
-    record {
-      room = p .room;
-      by = λ i h.
-          let o : i ≤ n - 1 = omega arith in
-          ⊎-elim (λ (z : i ≡ n - 1). rw z l)
-          (λ (k : i < n - 1). omega (arith, in-order ls 0 expiry f i (n - 1) k (omega (arith, p .room))))
-          (eq-or-lt-of-le o);
-      after = λ h. p .after n (omega arith) h;
-    }
-
-pub beyond-all : {ls : List Leap} {month n : ℕ} → Beyond ls month n → n ≤ 0 → ByMonth ls month n
-beyond-all {ls} {month} {n} p z = record { room = p .room; by = λ i h. absurd (omega arith); after = λ h. p .after n (omega arith) h }
-
-pub lowered-none : (ls : List Leap) → Lowered ls 0 0
-lowered-none ls = record { sum = refl; few = omega arith }
-
--- one leap more
-pub lowered-one : {ls : List Leap} {n down : ℕ} → Lowered ls n down → n < length ls → (sign : Sign) → getD ls n noLeap .sign ≡ sign
-    → (r : ℕ) → r ≡ count (sameSign Negative sign) → r ≤ 1 → Lowered ls (n + 1) (down + r)
-lowered-one {ls} {n} {down} p h sign e r f small =
-    record {
-      sum = omega (arith, p .sum, f, of-sign-next Negative ls n h, ap (λ x. count (sameSign Negative x)) e);
-      few = omega (arith, p .few);
-    }
-
--- the next leap, and none
-pub ahead-some : {ls : List Leap} {n : ℕ} → n < length ls → (next : ℕ) (sign : Sign) → getD ls n noLeap ≡ record { month = next; sign = sign } → Ahead ls n next sign
-ahead-some h next sign e = record { some = λ l. e; none = λ l. absurd (omega arith) }
-
-pub ahead-none : {ls : List Leap} {n : ℕ} → length ls ≤ n → (sign : Sign) → Ahead ls n 0 sign
-ahead-none h sign = record { some = λ l. absurd (omega arith); none = λ l. refl }
-
-module _ (s : Schedule) (w : wellFormed s ≡ true) (day month n down next : ℕ) (sign : Sign) (p : ByMonth (leapsOf s) month n) (l : Lowered (leapsOf s) n down)
-    (q : Ahead (leapsOf s) n next sign) (i : InMonth day month) where
-  here : Placed (leapsOf s) day n
-  here =
-      record {
-        room = p .room;
-        begun = λ k h. omega (arith, i .from, start-le (p .by k h));
-        not-begun = λ h.
-            let later : month + 1 ≤ leapMonth (leapsOf s) n = omega (arith, p .after h) in
-            omega (arith, i .before, start-le later);
-      }
-
-  positives : ofSign Positive (take n (leapsOf s)) ≡ n - down
-  positives = omega (arith, both-signs (take n (leapsOf s)), length-take-le n (leapsOf s) (p .room), l .sum)
-
-  tallied-by : (v : Survey) → v .up ≡ n - down → v .down ≡ down → v .ending ≡ ending s day → TalliedOn s day v
-  tallied-by v eu ed f =
-      record { up = eu ∙ sym (tally-by s w here Positive ∙ positives); down = ed ∙ l .sum ∙ sym (tally-by s w here Negative); ends = f }
-
-  -- no leap takes effect on the next day
-  pub tallied-same : (monthStart next - 1 ≡ day → ⊥) → (v : Survey) → v .up ≡ n - down → v .down ≡ down → v .ending ≡ Ordinary → TalliedOn s day v
-  tallied-same ne v eu ed f = tallied-by v eu ed (f ∙ sym (ending-same s w here other))
-    where
-      other : n < length (leapsOf s) → monthStart (leapMonth (leapsOf s) n) ≡ day + 1 → ⊥
-      other h e = let k : monthStart next ≡ day + 1 = sym (ap (λ l. monthStart (l .month)) (q .some h)) ∙ e in ne (omega arith)
-
-  -- the next leap does
-  pub tallied-next : monthStart next - 1 ≡ day → (v : Survey) → v .up ≡ n - down → v .down ≡ down → v .ending ≡ endingOf sign → TalliedOn s day v
-  tallied-next e v eu ed f =
-      let some : n < length (leapsOf s) =
-      elim (decLt n (length (leapsOf s))) [
-        | yes k ↦ k
-        | no k ↦ absurd (let z = q .none (omega arith) in omega (arith, rw z at e, start-zero, start-from month, i .from))
-      ] in
-      let leap = q .some some in
-      let start : monthStart (leapMonth (leapsOf s) n) ≡ day + 1 = ap (λ l. monthStart (l .month)) leap ∙ omega (arith, e, start-from next) in
-      tallied-by v eu ed (f ∙ sym (ending-next s w day n some start ∙ ap (λ l. endingOf (l .sign)) leap))
+pub ending-next : (s : Schedule) → wellFormed s ≡ true → (day n : ℕ) → n < length (s .leaps) → monthStart (leapMonth (s .leaps) n) ≡ day + 1
+    → ending s day ≡ endingOf (getD (s .leaps) n noLeap .sign)
+ending-next s w day n h e = rw (← e) (ending-at (s .leaps) 0 (s .expiry) (parts s w .gaps) n h)

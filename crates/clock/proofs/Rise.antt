@@ -4,7 +4,7 @@ use mathlib.Core.Logic.{_⊎_, ⊎-elim}
 use mathlib.Core.Path.{_≡_}
 use Prim.Native.Nat.{ℕ, _+_, _*_, _<_}
 use native.Mathlib.Omega.{arith}
-use Rattle.schedule.specs.declared.Schedule.{Schedule}
+use Rattle.schedule.specs.Schedule.{Schedule}
 use Rattle.clock.specs.Days.{ending}
 use Rattle.clock.specs.Smoothed.{nanosPerDay, nanosPerSecond, uts}
 use Rattle.clock.specs.Known.{utsCutoff}

@@ -6,22 +6,20 @@ use mathlib.Core.Path.{_≡_}
 use Prim.Native.Nat.{ℕ, zero, suc, _+_, _-_, _*_, _≤_, _<_}
 use native.Mathlib.Omega.{arith}
 use lib.Dec.{leb}
-use lib.ListN.{length, length-take}
+use lib.ListN.{length}
 use Rattle.calendar.specs.Calendar.{firstDay, endDay, monthStart}
 use Rattle.calendar.proofs.Laws.{start-zero}
 use Rattle.schedule.specs.declared.Sign.{Sign}
 use Rattle.schedule.specs.declared.Sign.the-variants.{Positive, Negative}
-use Rattle.schedule.specs.declared.Leap.{Leap}
-use Rattle.schedule.specs.declared.Schedule.{Schedule}
-use Rattle.schedule.specs.Schedule.{maxLeaps, leapsOf, wellFormed}
+use Rattle.schedule.specs.Schedule.{Leap, Schedule, maxLeaps, wellFormed}
 use Rattle.schedule.specs.Extends.{sameSign}
 use Rattle.schedule.proofs.Gaps.{parts, before-end}
-use Rattle.clock.specs.declared.days.Ending.{Ending}
-use Rattle.clock.specs.declared.days.Ending.the-variants.{Ordinary, Inserted, Deleted}
+use Rattle.clock.specs.declared.Ending.{Ending}
+use Rattle.clock.specs.declared.Ending.the-variants.{Ordinary, Inserted, Deleted}
 use Rattle.clock.specs.Days.{microsPerDay, longDay, shortDay, ending, dayLength, tai}
 use Rattle.clock.specs.Known.{lastDay}
 use Rattle.clock.specs.Question.{firstTai}
-use Rattle.clock.specs.Private.{count, tally, mostDtai}
+use Rattle.clock.specs.Tally.{count, tally}
 use Rattle.clock.proofs.Tallied.{tai-tallied}
 use Rattle.clock.proofs.Leaps.{ending-none, tally-none, tally-next, part}
 
@@ -55,15 +53,15 @@ tally-length sign (l ∷ ls) day =
 
 module _ (s : Schedule) (w : wellFormed s ≡ true) where
   -- the tallies of the first day, and of the next day
-  tally-first : (sign : Sign) → tally sign (leapsOf s) firstDay ≡ 0
-  tally-first sign = tally-none sign 0 (leapsOf s) (s .expiry) firstDay (parts s w .gaps) (omega (arith, start-zero))
+  tally-first : (sign : Sign) → tally sign (s .leaps) firstDay ≡ 0
+  tally-first sign = tally-none sign 0 (s .leaps) (s .expiry) firstDay (parts s w .gaps) (omega (arith, start-zero))
 
-  pub tally-after : (sign : Sign) (day : ℕ) → tally sign (leapsOf s) (day + 1) ≡ tally sign (leapsOf s) day + part sign (ending s day)
-  tally-after sign day = tally-next sign 0 (leapsOf s) (s .expiry) day (parts s w .gaps)
+  pub tally-after : (sign : Sign) (day : ℕ) → tally sign (s .leaps) (day + 1) ≡ tally sign (s .leaps) day + part sign (ending s day)
+  tally-after sign day = tally-next sign 0 (s .leaps) (s .expiry) day (parts s w .gaps)
 
   -- the list expires after the first day
   pub expires-later : firstDay < s .expiry
-  expires-later = omega (arith, start-zero, before-end (leapsOf s) 0 (s .expiry) (parts s w .gaps))
+  expires-later = omega (arith, start-zero, before-end (s .leaps) 0 (s .expiry) (parts s w .gaps))
 
   -- and no later than the calendar
   pub last-inside : lastDay s < endDay
@@ -71,28 +69,28 @@ module _ (s : Schedule) (w : wellFormed s ≡ true) where
 
   -- no leap of the list ends its last day
   pub ending-last : ending s (lastDay s) ≡ Ordinary
-  ending-last = let z : lastDay s + 1 ≡ s .expiry = omega (arith, expires-later) in rw z (ending-none 0 (leapsOf s) (s .expiry) (parts s w .gaps))
+  ending-last = let z : lastDay s + 1 ≡ s .expiry = omega (arith, expires-later) in rw z (ending-none 0 (s .leaps) (s .expiry) (parts s w .gaps))
 
   -- no more leaps take a second away than days have passed
-  deleted-from : (k : ℕ) → tally Negative (leapsOf s) (firstDay + k) ≤ k
+  deleted-from : (k : ℕ) → tally Negative (s .leaps) (firstDay + k) ≤ k
   deleted-from zero = omega (arith, tally-first Negative)
   deleted-from (suc k) =
       let z : firstDay + suc k ≡ firstDay + k + 1 = omega arith in
       rw z (omega (arith, deleted-from k, tally-after Negative (firstDay + k), part-small Negative (ending s (firstDay + k))))
 
-  pub deleted-few : (day : ℕ) → firstDay ≤ day → tally Negative (leapsOf s) day ≤ day - firstDay
+  pub deleted-few : (day : ℕ) → firstDay ≤ day → tally Negative (s .leaps) day ≤ day - firstDay
   deleted-few day i =
       let z : firstDay + (day - firstDay) ≡ day = omega arith in
       rw z at (deleted-from (day - firstDay))
 
-  pub tally-few : (sign : Sign) (day : ℕ) → tally sign (leapsOf s) day ≤ maxLeaps
-  tally-few sign day = omega (arith, tally-length sign (leapsOf s) day, length-take (s .count) (s .leaps), parts s w .room)
+  pub tally-few : (sign : Sign) (day : ℕ) → tally sign (s .leaps) day ≤ maxLeaps
+  tally-few sign day = omega (arith, tally-length sign (s .leaps) day, parts s w .room)
 
   -- however many leaps there are, DTAI is between -246 and 266
   pub tai-low : (day : ℕ) → firstDay ≤ day → microsPerDay * (day - firstDay) ≤ tai s day 0 + 246_000_000
   tai-low day i = omega (arith, tai-tallied s day 0 i, deleted-few day i, tally-few Negative day)
 
-  pub tai-high : (day : ℕ) → firstDay ≤ day → tai s day 0 ≤ microsPerDay * (day - firstDay) + mostDtai
+  pub tai-high : (day : ℕ) → firstDay ≤ day → tai s day 0 ≤ microsPerDay * (day - firstDay) + 266_000_000
   tai-high day i = omega (arith, tai-tallied s day 0 i, tally-few Positive day)
 
   -- TAI counts the day's microseconds
@@ -106,8 +104,8 @@ module _ (s : Schedule) (w : wellFormed s ≡ true) where
   pub tai-next : (day : ℕ) → firstDay ≤ day → tai s (day + 1) 0 ≡ tai s day 0 + dayLength (ending s day)
   tai-next day i = go (ending s day) (tally-after Positive day) (tally-after Negative day)
     where
-      go : (e : Ending) → tally Positive (leapsOf s) (day + 1) ≡ tally Positive (leapsOf s) day + part Positive e
-          → tally Negative (leapsOf s) (day + 1) ≡ tally Negative (leapsOf s) day + part Negative e → tai s (day + 1) 0 ≡ tai s day 0 + dayLength e
+      go : (e : Ending) → tally Positive (s .leaps) (day + 1) ≡ tally Positive (s .leaps) day + part Positive e
+          → tally Negative (s .leaps) (day + 1) ≡ tally Negative (s .leaps) day + part Negative e → tai s (day + 1) 0 ≡ tai s day 0 + dayLength e
       go Ordinary p q = omega (arith, tai-tallied s day 0 i, tai-tallied s (day + 1) 0 (omega arith), deleted-few day i)
       go Inserted p q = omega (arith, tai-tallied s day 0 i, tai-tallied s (day + 1) 0 (omega arith), deleted-few day i)
       go Deleted p q =

@@ -13,12 +13,10 @@ use borrow.Author.Tests.{ltb-true, ltb-false, lt-ltb, le-ltb}
 use Rattle.calendar.specs.Calendar.{firstDay}
 use Rattle.schedule.specs.declared.Sign.{Sign}
 use Rattle.schedule.specs.declared.Sign.the-variants.{Positive, Negative}
-use Rattle.schedule.specs.declared.Leap.{Leap}
-use Rattle.schedule.specs.declared.Schedule.{Schedule}
-use Rattle.schedule.specs.Schedule.{leapsOf}
+use Rattle.schedule.specs.Schedule.{Leap, Schedule}
 use Rattle.schedule.specs.Extends.{sameSign}
 use Rattle.clock.specs.Days.{microsPerSecond, microsPerDay, firstDtai, inEffect, secondOf, leapSeconds, dtai, natural, tai}
-use Rattle.clock.specs.Private.{count, tally}
+use Rattle.clock.specs.Tally.{count, tally}
 
 -- ---- differences of two numbers
 
@@ -95,11 +93,11 @@ leaps-tallied (l ∷ ls) day =
     rw (leaps-tallied ls day) (one-more (l .sign) (inEffect l day) (tally Positive ls day) (tally Negative ls day))
 
 -- DTAI is 10 and the positive leaps in effect, less the negative ones
-pub dtai-tallied : (s : Schedule) (day : ℕ) → dtai s day ≡ subℕ (firstDtai + tally Positive (leapsOf s) day) (tally Negative (leapsOf s) day)
+pub dtai-tallied : (s : Schedule) (day : ℕ) → dtai s day ≡ subℕ (firstDtai + tally Positive (s .leaps) day) (tally Negative (s .leaps) day)
 unfolding dtai
 dtai-tallied s day =
-    ap (λ z. pos firstDtai +ℤ z) (leaps-tallied (leapsOf s) day)
-    ∙ plus-minus firstDtai (tally Positive (leapsOf s) day) (tally Negative (leapsOf s) day)
+    ap (λ z. pos firstDtai +ℤ z) (leaps-tallied (s .leaps) day)
+    ∙ plus-minus firstDtai (tally Positive (s .leaps) day) (tally Negative (s .leaps) day)
 
 -- ---- TAI
 
@@ -109,8 +107,8 @@ days-exact day t i = rw (plus-negative day firstDay i)
 
 pub tai-tallied : (s : Schedule) (day t : ℕ) → firstDay ≤ day
     → tai s day t
-    ≡ microsPerDay * (day - firstDay) + t + microsPerSecond * (firstDtai + tally Positive (leapsOf s) day) - microsPerSecond * tally Negative (leapsOf s) day
+    ≡ microsPerDay * (day - firstDay) + t + microsPerSecond * (firstDtai + tally Positive (s .leaps) day) - microsPerSecond * tally Negative (s .leaps) day
 unfolding tai
 tai-tallied s day t i =
     rw (days-exact day t i, dtai-tallied s day)
-    (times-cut (microsPerDay * (day - firstDay) + t) (firstDtai + tally Positive (leapsOf s) day) (tally Negative (leapsOf s) day))
+    (times-cut (microsPerDay * (day - firstDay) + t) (firstDtai + tally Positive (s .leaps) day) (tally Negative (s .leaps) day))

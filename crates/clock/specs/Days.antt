@@ -8,11 +8,9 @@ use lib.IntN.{ℤ, pos, negsuc, negℤ, _+ℤ_, _-ℤ_, _*ℤ_}
 use Rattle.calendar.specs.Calendar.{firstDay, monthStart}
 use Rattle.schedule.specs.declared.Sign.{Sign}
 use Rattle.schedule.specs.declared.Sign.the-variants.{Positive, Negative}
-use Rattle.schedule.specs.declared.Leap.{Leap}
-use Rattle.schedule.specs.declared.Schedule.{Schedule}
-use Rattle.schedule.specs.Schedule.{leapsOf}
-use Rattle.clock.specs.declared.days.Ending.{Ending}
-use Rattle.clock.specs.declared.days.Ending.the-variants.{Ordinary, Inserted, Deleted}
+use Rattle.schedule.specs.Schedule.{Leap, Schedule}
+use Rattle.clock.specs.declared.Ending.{Ending}
+use Rattle.clock.specs.declared.Ending.the-variants.{Ordinary, Inserted, Deleted}
 
 -- a second in microseconds
 abbrev pub microsPerSecond : ℕ
@@ -50,7 +48,7 @@ leapSeconds (l ∷ ls) day = cond (inEffect l day) (secondOf (l .sign)) (pos 0) 
 -- "DTAI", TAI minus UTC on a day in seconds: 10 from MJD 41317; each positive leap adds 1 and each negative one takes 1 away, from the
 -- first day of its month
 unfoldable pub dtai : Schedule → ℕ → ℤ
-dtai s day = pos firstDtai +ℤ leapSeconds (leapsOf s) day
+dtai s day = pos firstDtai +ℤ leapSeconds (s .leaps) day
 
 -- how a day ends at whose end a leap of the sign happens
 abbrev pub endingOf : Sign → Ending
@@ -64,7 +62,7 @@ endingBefore (l ∷ ls) next = cond (eqb (monthStart (l .month)) next) (endingOf
 
 -- how a day ends: with a second inserted, with one deleted, or as usual
 abbrev pub ending : Schedule → ℕ → Ending
-ending s day = endingBefore (leapsOf s) (day + 1)
+ending s day = endingBefore (s .leaps) (day + 1)
 
 -- a day's length in microseconds: 86,400 s, or 86,401 s before a positive leap, or 86,399 s before a negative one
 abbrev pub dayLength : Ending → ℕ

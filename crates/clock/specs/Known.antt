@@ -4,7 +4,7 @@ use mathlib.Core.Bool.{Bool, _&&_, _||_, not, cond}
 use Prim.Native.Nat.{ℕ, _+_, _-_}
 use lib.Dec.{leb, ltb, eqb}
 use Rattle.calendar.specs.Calendar.{startsMonth}
-use Rattle.schedule.specs.declared.Schedule.{Schedule}
+use Rattle.schedule.specs.Schedule.{Schedule}
 use Rattle.clock.specs.Days.{microsPerDay, tai}
 
 -- "Z", the last day before expiry: it has a known DTAI, and an unknown length if the expiry is the first of a month

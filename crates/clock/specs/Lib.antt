@@ -1,4 +1,4 @@
--- The clock's definitions, in the order of the paper; Private has what only private functions are held to.
+-- The clock's definitions, in the order of the paper; then leaps counted by their sign, as laws and contracts have them.
 pub mod Days
 pub mod Smoothed
 pub mod Document002
@@ -7,5 +7,4 @@ pub mod Question
 pub mod Taken
 pub mod Lists
 pub mod Answers
-pub mod Many
-pub mod Private
+pub mod Tally

@@ -6,7 +6,7 @@ use mathlib.Core.Path.{_≡_}
 use Prim.Native.Nat.{ℕ}
 use lib.IntN.{ℤ}
 use Rattle.refusals.specs.Refusals.{before1972, noInstant, notKnown}
-use Rattle.schedule.specs.declared.Schedule.{Schedule}
+use Rattle.schedule.specs.Schedule.{Schedule}
 use Rattle.clock.specs.Question.{Answer, given, refused, Question, DTAI, Value, ask}
 
 -- what refusal 10 may become: itself, 9 or an answer

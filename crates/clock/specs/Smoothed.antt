@@ -4,8 +4,8 @@ use mathlib.Core.Bool.{cond}
 use Prim.Native.Nat.{ℕ, _+_, _-_, _*_}
 use lib.Dec.{leb, ltb}
 use Rattle.calendar.specs.Greatest.{greatest}
-use Rattle.clock.specs.declared.days.Ending.{Ending}
-use Rattle.clock.specs.declared.days.Ending.the-variants.{Ordinary, Inserted, Deleted}
+use Rattle.clock.specs.declared.Ending.{Ending}
+use Rattle.clock.specs.declared.Ending.the-variants.{Ordinary, Inserted, Deleted}
 use Rattle.clock.specs.Days.{dayLength}
 
 -- a UTS day, which always has 86,400 s, in nanoseconds

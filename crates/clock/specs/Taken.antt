@@ -5,7 +5,7 @@ use mathlib.Core.Bool.{true}
 use mathlib.Core.Path.{_≡_}
 use Prim.Native.Nat.{ℕ, _≤_, _<_}
 use Rattle.calendar.specs.Calendar.{firstDay}
-use Rattle.schedule.specs.declared.Schedule.{Schedule}
+use Rattle.schedule.specs.Schedule.{Schedule}
 use Rattle.clock.specs.Days.{ending, dayLength}
 use Rattle.clock.specs.Smoothed.{nanosPerDay}
 use Rattle.clock.specs.Known.{lastDay, fullyKnown, taiCutoff, utsCutoff, nanosCutoff, taiEnd}

@@ -1,22 +1,36 @@
-// The clock: what a schedule of leap seconds says of times. DTAI for a date, UTC to TAI and back, UTC to smoothed time (UTS) and back.
-// Any schedule and any number may be given; what can't be answered is refused by its number.
-ghost use mathlib.Core.Path.{_≡_};
-ghost use Rattle.clock.specs.Question.{dtaiOn, utcToTai, taiToUtc, utcToUts, utsToUtc};
-ghost use Rattle.clock.specs.Answers.{dtaiAnswer, taiAnswer, utcAnswer, utsAnswer, microsAnswer};
+// The clock: what a list of leap seconds says of times, in definitions and laws. Here are the numbers and the types that the five questions are
+// asked and answered with: DTAI for a date, UTC to TAI and back, UTC to smoothed time (UTS) and back.
+pub mod answers; // answers.rt: the number and the values of each kind of answer
 
-pub mod answers;
-mod days;
-mod inplace;
-mod instants;
-mod look;
-mod loops;
-pub mod many;
-mod questions;
-mod smooth;
-mod stretches;
-pub mod words;
+// A second in microseconds.
+pub const MICROS_PER_SECOND: u64 = 1_000_000;
 
-use schedule::Schedule;
+// A day of 86,400 s in microseconds.
+pub const MICROS_PER_DAY: u64 = 86_400_000_000;
+
+// A day of 86,401 s in microseconds: no day is longer.
+pub const LONG_DAY: u64 = 86_401_000_000;
+
+// A day of 86,399 s in microseconds: no day is shorter.
+pub const SHORT_DAY: u64 = 86_399_000_000;
+
+// A UTS day, which always has 86,400 s, in nanoseconds.
+pub const NANOS_PER_DAY: u64 = 86_400_000_000_000;
+
+// DTAI before any leap.
+pub const FIRST_DTAI: u32 = 10;
+
+// The TAI of 1972-01-01 00:00:00 UTC.
+pub const FIRST_TAI: u64 = 10_000_000;
+
+// On Z TAI is given below this microsecond,
+pub const TAI_CUTOFF: u64 = 86_399_000_000;
+
+// UTS below this microsecond,
+pub const UTS_CUTOFF: u64 = 85_399_000_000;
+
+// and UTC from UTS below this nanosecond.
+pub const NANOS_CUTOFF: u64 = 85_399_000_000_000;
 
 // Microseconds of a UTC day.
 pub struct UtcMicros(pub u64);
@@ -26,6 +40,13 @@ pub struct UtsNanos(pub u64);
 
 // Microseconds from 1972-01-01 00:00:00 TAI.
 pub struct TaiMicros(pub u64);
+
+// How a day ends: as usual, with a second inserted, or with its last second deleted.
+pub enum Ending {
+    Ordinary,
+    Inserted,
+    Deleted,
+}
 
 // DTAI in seconds, or the number of the refusal.
 pub enum DtaiAnswer {
@@ -55,40 +76,4 @@ pub enum UtsAnswer {
 pub enum MicrosAnswer {
     Given(UtcMicros),
     Refused(u8),
-}
-
-// DTAI, TAI minus UTC, for a date.
-pub fn dtai(s: Schedule, day: u64) -> DtaiAnswer
-    ensures { λ r. ⌜ r ≡ dtaiAnswer (dtaiOn s day) ⌝ }
-{
-    questions::dtai_on(days::day_at(s, day), day)
-}
-
-// UTC to TAI.
-pub fn utc_to_tai(s: Schedule, day: u64, t: UtcMicros) -> TaiAnswer
-    ensures { λ r. ⌜ r ≡ taiAnswer (utcToTai s day (t .0)) ⌝ }
-{
-    questions::tai_on(days::day_at(s, day), day, t.0)
-}
-
-// TAI to UTC: the one instant whose TAI it is.
-pub fn tai_to_utc(s: Schedule, x: TaiMicros) -> UtcAnswer
-    ensures { λ r. ⌜ r ≡ utcAnswer (taiToUtc s (x .0)) ⌝ }
-{
-    let near = questions::near_day(x.0, days::day_before(s.expiry));
-    questions::utc_on(days::day_at(s, near), near, x.0)
-}
-
-// UTC to smoothed time.
-pub fn utc_to_uts(s: Schedule, day: u64, t: UtcMicros) -> UtsAnswer
-    ensures { λ r. ⌜ r ≡ utsAnswer (utcToUts s day (t .0)) ⌝ }
-{
-    questions::uts_on(days::day_at(s, day), day, t.0)
-}
-
-// Smoothed time to UTC: the greatest microsecond of the day whose smoothed time is not above the one given.
-pub fn uts_to_utc(s: Schedule, day: u64, u: UtsNanos) -> MicrosAnswer
-    ensures { λ r. ⌜ r ≡ microsAnswer (utsToUtc s day (u .0)) ⌝ }
-{
-    questions::micros_on(days::day_at(s, day), day, u.0)
 }

@@ -1,0 +1,211 @@
+// What is answered by what a list says of a day: for single questions, whose day is found in the words, and for many, whose days are found in a
+// list prepared. Of a `Day` that no list says nothing is promised but that the call ends.
+ghost use mathlib.Core.Path.{_≡_};
+ghost use mathlib.Core.Bool.{true};
+ghost use Prim.Native.Nat.{_+_, _-_, _≤_, _<_, min};
+ghost use lib.IntN.{subℕ};
+ghost use Rattle.calendar.specs.Calendar.{endDay};
+ghost use Rattle.schedule.specs.Schedule.{Schedule, wellFormed};
+ghost use Rattle.clock.specs.Days.{firstDtai};
+ghost use Rattle.clock.specs.Known.{lastDay, utsCutoff, nanosCutoff};
+ghost use Rattle.clock.specs.Question.{dtaiOn, utcToTai, taiToUtc, utcToUts, utsToUtc};
+ghost use Rattle.clock.specs.Answers.{dtaiAnswer, taiAnswer, utcAnswer, utsAnswer, microsAnswer};
+ghost use Rattle.questions.specs.Said.{ListFor, DayFor, nearDay};
+ghost use Rattle.questions.specs.Private.{onDay};
+use crate::days::date_refusal;
+use crate::days::day_length;
+use crate::days::start_of;
+use crate::days::wide;
+use crate::instants::instant_refusal;
+use crate::instants::is_known;
+use crate::instants::utc_refusal;
+use crate::smooth::smoothed;
+use crate::smooth::unsmoothed;
+use calendar::END_DAY;
+use calendar::FIRST_DAY;
+use clock::DtaiAnswer;
+use clock::Ending;
+use clock::FIRST_DTAI;
+use clock::FIRST_TAI;
+use clock::MICROS_PER_DAY;
+use clock::MicrosAnswer;
+use clock::NANOS_CUTOFF;
+use clock::NANOS_PER_DAY;
+use clock::SHORT_DAY;
+use clock::TAI_CUTOFF;
+use clock::TaiAnswer;
+use clock::TaiMicros;
+use clock::UTS_CUTOFF;
+use clock::UtcAnswer;
+use clock::UtcMicros;
+use clock::UtsAnswer;
+use clock::UtsNanos;
+use refusals::BEFORE_1972;
+use refusals::NOT_KNOWN;
+use refusals::NOT_WELL_FORMED;
+use std::num::wrapping_add_u64;
+use std::num::wrapping_sub_u64;
+
+// No DTAI is above 266 s: in microseconds.
+const MOST_DTAI: u64 = 266_000_000;
+
+// What a list says of a day: whether it is one, how many leaps of each sign are in effect on the day, how the day ends, and Z, the last day
+// before expiry.
+pub struct Day {
+    pub well: bool,
+    pub up: u16,
+    pub down: u16,
+    pub ending: Ending,
+    pub last: u64,
+}
+
+// The smaller of two numbers.
+pub fn smaller(a: u64, b: u64) -> u64
+    ensures { λ r. ⌜ r ≡ min a b ⌝ }
+{
+    if a < b {
+        return a;
+    }
+    b
+}
+
+// The last day before an expiry. Past the calendar, where no list expires, it is the calendar's last day, and for day 0 it is day 0.
+pub fn day_before(expiry: u32) -> u64
+    ensures { λ r. ⌜ (expiry ≤ endDay → r ≡ expiry - 1) × (r < endDay) ⌝ }
+{
+    if schedule::END_DAY < expiry {
+        return END_DAY - 1;
+    }
+    if expiry == 0 {
+        return 0;
+    }
+    (expiry - 1) as u64
+}
+
+// The day of a TAI or the one before it, and at most `last`.
+pub fn near_day(x: u64, last: u64) -> u64
+    ensures { λ r. ⌜ r ≡ nearDay x last ⌝ }
+{
+    if x < MOST_DTAI {
+        return smaller(FIRST_DAY, last);
+    }
+    smaller(FIRST_DAY + (x - MOST_DTAI) / MICROS_PER_DAY, last)
+}
+
+// DTAI by which so many leaps of each sign are in effect; it may be below zero.
+fn dtai_by(up: u16, down: u16) -> i32
+    ensures { λ r. ⌜ r ≡ subℕ (firstDtai + up) down ⌝ }
+{
+    (FIRST_DTAI + wide(up)) as i32 - wide(down) as i32
+}
+
+// DTAI, TAI minus UTC, for a date.
+pub fn dtai_on(k: Day, day: u64) -> DtaiAnswer
+    ensures { λ r. ⌜ ((s : Schedule) → DayFor s day k → r ≡ dtaiAnswer (dtaiOn s day)) ⌝ }
+{
+    let number = date_refusal(k.well, k.last, day);
+    if number != 0 {
+        return DtaiAnswer::Refused(number);
+    }
+    DtaiAnswer::Given(dtai_by(k.up, k.down))
+}
+
+// UTC to TAI.
+pub fn tai_on(k: Day, day: u64, micros: u64) -> TaiAnswer
+    ensures { λ r. ⌜ ((s : Schedule) → DayFor s day k → r ≡ taiAnswer (utcToTai s day micros)) ⌝ }
+{
+    let number = utc_refusal(k, TAI_CUTOFF, day, micros);
+    if number != 0 {
+        return TaiAnswer::Refused(number);
+    }
+    // No list knows so late a day.
+    if END_DAY <= k.last {
+        return TaiAnswer::Refused(NOT_KNOWN);
+    }
+    TaiAnswer::Given(TaiMicros(wrapping_add_u64(start_of(k, day), micros)))
+}
+
+// UTC to smoothed time.
+pub fn uts_on(k: Day, day: u64, micros: u64) -> UtsAnswer
+    ensures { λ r. ⌜ ((s : Schedule) → DayFor s day k → r ≡ utsAnswer (utcToUts s day micros)) ⌝ }
+{
+    let number = utc_refusal(k, UTS_CUTOFF, day, micros);
+    if number != 0 {
+        return UtsAnswer::Refused(number);
+    }
+    let w = k.ending;
+    UtsAnswer::Given(UtsNanos(smoothed(w, micros)))
+}
+
+// UTC to smoothed time under a list, before the last 1,001 s of a day, where it does not depend on how the day ends and is known on every known
+// date.
+pub fn early_uts(last: u64, day: u64, micros: u64) -> UtsAnswer
+    ensures { λ r. ⌜ ((s : Schedule) → ListFor s true last → micros < utsCutoff → r ≡ utsAnswer (utcToUts s day micros)) ⌝ }
+{
+    let number = date_refusal(true, last, day);
+    if number != 0 {
+        return UtsAnswer::Refused(number);
+    }
+    UtsAnswer::Given(UtsNanos(1000 * smaller(micros, UTS_CUTOFF)))
+}
+
+// Smoothed time to UTC, likewise.
+pub fn early_micros(last: u64, day: u64, nanos: u64) -> MicrosAnswer
+    ensures { λ r. ⌜ ((s : Schedule) → ListFor s true last → nanos < nanosCutoff → r ≡ microsAnswer (utsToUtc s day nanos)) ⌝ }
+{
+    let number = date_refusal(true, last, day);
+    if number != 0 {
+        return MicrosAnswer::Refused(number);
+    }
+    MicrosAnswer::Given(UtcMicros(nanos / 1000))
+}
+
+// Smoothed time to UTC: the greatest microsecond of the day whose smoothed time is not above the one given.
+pub fn micros_on(k: Day, day: u64, nanos: u64) -> MicrosAnswer
+    ensures { λ r. ⌜ ((s : Schedule) → DayFor s day k → r ≡ microsAnswer (utsToUtc s day nanos)) ⌝ }
+{
+    let number = instant_refusal(k.well, k.last, NANOS_PER_DAY, NANOS_CUTOFF, day, nanos);
+    if number != 0 {
+        return MicrosAnswer::Refused(number);
+    }
+    let w = k.ending;
+    MicrosAnswer::Given(UtcMicros(unsmoothed(w, nanos)))
+}
+
+// The instant, if it is known where `last` is the last day.
+fn on_day(day: u64, t: u64, last: u64) -> UtcAnswer
+    ensures { λ r. ⌜ r ≡ utcAnswer (onDay day t last) ⌝ }
+{
+    if is_known(last, TAI_CUTOFF, day, t) {
+        return UtcAnswer::Given(day, UtcMicros(t));
+    }
+    UtcAnswer::Refused(NOT_KNOWN)
+}
+
+// TAI to UTC, by the day near it: the one instant whose TAI it is. It lies on that day or on the next.
+pub fn utc_on(k: Day, near: u64, tai: u64) -> UtcAnswer
+    ensures { λ r. ⌜ ((s : Schedule) → DayFor s near k → (wellFormed s ≡ true → near ≡ nearDay tai (lastDay s)) → r ≡ utcAnswer (taiToUtc s tai)) ⌝ }
+{
+    if !k.well {
+        return UtcAnswer::Refused(NOT_WELL_FORMED);
+    }
+    if tai < FIRST_TAI {
+        return UtcAnswer::Refused(BEFORE_1972);
+    }
+    // No list knows so late a day.
+    if END_DAY <= near {
+        return UtcAnswer::Refused(NOT_KNOWN);
+    }
+    let last = k.last;
+    let t = wrapping_sub_u64(tai, start_of(k, near));
+    // Every day has so much, however it ends, and on the last day it is known.
+    if t < SHORT_DAY {
+        return UtcAnswer::Given(near, UtcMicros(t));
+    }
+    let w = k.ending;
+    let length = day_length(w);
+    if length <= t {
+        return on_day(near + 1, t - length, last);
+    }
+    on_day(near, t, last)
+}
