@@ -10,14 +10,12 @@ use lib.Dec.{eqb}
 use lib.ListN.{length, getD}
 use borrow.Author.Tests.{eqb-true, eqb-false, eq-eqb, ne-eqb}
 use Rattle.format.specs.Ascii.{zeroByte}
-use Rattle.schedule.specs.declared.Leap.{Leap}
-use Rattle.schedule.specs.declared.Schedule.{Schedule}
-use Rattle.schedule.specs.Schedule.{noLeap, leapsOf, gapsFit, wellFormed}
+use Rattle.schedule.specs.Schedule.{Leap, Schedule, noLeap, gapsFit, wellFormed}
 use Rattle.schedule.proofs.Cases.{by-bool}
 use Rattle.schedule.proofs.Gaps.{fits-lt, first, later, parts}
 use Rattle.text.specs.Bytes.{endByte}
 use Rattle.compare.specs.Compare.{leapMark, isUnknown, mark}
-use Rattle.compare.specs.Inner.{pastMonths, firstMonth, leapsFrom, firstMark, markFrom}
+use Rattle.compare.specs.Private.{pastMonths, firstMonth, leapsFrom, firstMark, markFrom}
 use Rattle.compare.proofs.Marks.{sign-some, none-yet}
 use Rattle.compare.proofs.Places.{here, first-here, first-none}
 
@@ -48,29 +46,28 @@ after (l ∷ ls) from e f h = fits-lt from (l .month) (first from l ls e f)
 -- the leaps before place i lie before the month, and the others at or after it
 pub record Ahead (s : Schedule) (i m : ℕ) : Type 0 where
   pub well : wellFormed s ≡ true
-  pub full : length (s .leaps) ≡ 256
-  pub inside : i ≤ s .count
+  pub inside : i ≤ length (s .leaps)
   pub last : ℕ
   pub gaps : gapsFit last (leapsFrom s i) (s .expiry) ≡ true
-  pub same : (k : ℕ) → m ≤ k → leapMark (leapsOf s) k ≡ leapMark (leapsFrom s i) k
+  pub same : (k : ℕ) → m ≤ k → leapMark (s .leaps) k ≡ leapMark (leapsFrom s i) k
   pub up-to : m ≤ firstMonth (leapsFrom s i)
 
-pub begin : (s : Schedule) → wellFormed s ≡ true → length (s .leaps) ≡ 256 → Ahead s 0 0
-begin s w full = record { well = w; full = full; inside = omega arith; last = 0; gaps = parts s w .gaps; same = λ k h. refl; up-to = omega arith }
+pub begin : (s : Schedule) → wellFormed s ≡ true → Ahead s 0 0
+begin s w = record { well = w; inside = omega arith; last = 0; gaps = parts s w .gaps; same = λ k h. refl; up-to = omega arith }
 
 -- the same from a later month on, up to the first leap
 pub later-month : {s : Schedule} {i m : ℕ} → Ahead s i m → (n : ℕ) → m ≤ n → n ≤ firstMonth (leapsFrom s i) → Ahead s i n
-later-month a n h g = record { well = a .well; full = a .full; inside = a .inside; last = a .last; gaps = a .gaps; same = λ k l. a .same k (omega arith); up-to = g }
+later-month a n h g = record { well = a .well; inside = a .inside; last = a .last; gaps = a .gaps; same = λ k l. a .same k (omega arith); up-to = g }
 
 module _ {s : Schedule} {i m : ℕ} (a : Ahead s i m) where
   -- the mark of a month up to the first leap's, and whether it has a leap
-  pub leap-mark : (k : ℕ) → m ≤ k → k ≤ firstMonth (leapsFrom s i) → leapMark (leapsOf s) k ≡ firstMark (leapsFrom s i) k
+  pub leap-mark : (k : ℕ) → m ≤ k → k ≤ firstMonth (leapsFrom s i) → leapMark (s .leaps) k ≡ firstMark (leapsFrom s i) k
   leap-mark k h g = a .same k h ∙ first-gives (leapsFrom s i) (a .last) (s .expiry) k (a .gaps) g
 
-  pub no-leap : (k : ℕ) → m ≤ k → k < firstMonth (leapsFrom s i) → leapMark (leapsOf s) k ≡ zeroByte
+  pub no-leap : (k : ℕ) → m ≤ k → k < firstMonth (leapsFrom s i) → leapMark (s .leaps) k ≡ zeroByte
   no-leap k h g = leap-mark k h (omega arith) ∙ before-first (leapsFrom s i) k g
 
-  pub has-leap : m ≡ firstMonth (leapsFrom s i) → m < pastMonths → eqb (leapMark (leapsOf s) m) zeroByte ≡ false
+  pub has-leap : m ≡ firstMonth (leapsFrom s i) → m < pastMonths → eqb (leapMark (s .leaps) m) zeroByte ≡ false
   has-leap e h = ap (λ (x : ℕ). eqb x zeroByte) (leap-mark m (omega arith) (omega arith)) ∙ at-first (leapsFrom s i) m e h
 
   pub mark-is : mark s m ≡ markFrom s i m
@@ -79,31 +76,30 @@ module _ {s : Schedule} {i m : ℕ} (a : Ahead s i m) where
   -- the place after the month
   module _ (h : m < pastMonths) where
     module _ (e : m ≡ firstMonth (leapsFrom s i)) where
-      in-use : i < s .count
+      in-use : i < length (s .leaps)
       in-use =
-          elim (decLt i (s .count)) [
+          elim (decLt i (length (s .leaps))) [
             | yes l ↦ l
-            | no l ↦ absurd (omega (arith, first-none s (a .full) (a .well) i (omega arith)))
+            | no l ↦ absurd (omega (arith, first-none s i (omega arith)))
           ]
 
       at-month : getD (s .leaps) i noLeap .month ≡ m
-      at-month = sym (first-here s (a .full) (a .well) i in-use) ∙ sym e
+      at-month = sym (first-here s i in-use) ∙ sym e
 
       gaps-here : gapsFit (a .last) (getD (s .leaps) i noLeap ∷ leapsFrom s (i + 1)) (s .expiry) ≡ true
-      gaps-here = rw (here s (a .full) (a .well) i in-use) at (a .gaps)
+      gaps-here = rw (here s i in-use) at (a .gaps)
 
       gaps-after : gapsFit m (leapsFrom s (i + 1)) (s .expiry) ≡ true
       gaps-after = rw at-month at (later (a .last) (getD (s .leaps) i noLeap) (leapsFrom s (i + 1)) (s .expiry) gaps-here)
 
       unmarked : (k : ℕ) → m + 1 ≤ k → leapMark (leapsFrom s i) k ≡ leapMark (leapsFrom s (i + 1)) k
       unfolding leapMark
-      unmarked k l = rw (here s (a .full) (a .well) i in-use) (simp (ne-eqb (getD (s .leaps) i noLeap .month) k (λ z. omega (arith, at-month))))
+      unmarked k l = rw (here s i in-use) (simp (ne-eqb (getD (s .leaps) i noLeap .month) k (λ z. omega (arith, at-month))))
 
       go-past : Ahead s (i + 1) (m + 1)
       go-past =
           record {
             well = a .well;
-            full = a .full;
             inside = omega (arith, in-use);
             last = m;
             gaps = gaps-after;

@@ -8,10 +8,10 @@ use lib.Dec.{eqb}
 use Rattle.format.specs.Ascii.{ascii}
 use Rattle.format.specs.Decimal.{decimal}
 use Rattle.format.specs.Lines.{newline, spaceByte, between}
-use Rattle.schedule.specs.declared.Schedule.{Schedule}
+use Rattle.schedule.specs.Schedule.{Schedule}
 use Rattle.schedule.proofs.Cases.{by-bool}
 use Rattle.compare.specs.Compare.{Line, mark, hasLine, lineAt, monthLines, expiryLines, relation, linesOf, told, inLines, joined, compared}
-use Rattle.compare.specs.Inner.{monthBytes, monthsBytes, expiryBytes, comparison}
+use Rattle.compare.specs.Private.{monthBytes, monthsBytes, expiryBytes, comparison}
 
 -- lines in bytes, each with the same bytes after it
 unfoldable endedBy : List ℕ → List Line → List ℕ

@@ -13,22 +13,20 @@ use Rattle.format.specs.Ascii.{zeroByte}
 use Rattle.format.specs.Output.{PutsUpTo}
 use Rattle.format.proofs.LeftUpTo.{LeftUpTo, none-yet, more, all}
 use Rattle.format.specs.Lines.{between}
-use Rattle.schedule.specs.declared.Leap.{Leap}
-use Rattle.schedule.specs.declared.Schedule.{Schedule}
-use Rattle.schedule.specs.Schedule.{leapsOf, gapsFit, wellFormed}
+use Rattle.schedule.specs.Schedule.{Leap, Schedule, gapsFit, wellFormed}
 use Rattle.schedule.proofs.WordLayout.{within}
 use Rattle.schedule.proofs.Cases.{by-bool}
 use Rattle.schedule.proofs.Gaps.{later, before-end, parts}
 use Rattle.compare.specs.Compare.{hasLeap, leapMark}
-use Rattle.compare.specs.Inner.{pastMonths, firstMonth, leapsFrom, markFrom, lineBytes, markLine, monthBytes, monthsBytes, differences}
+use Rattle.compare.specs.Private.{pastMonths, firstMonth, leapsFrom, markFrom, lineBytes, markLine, monthBytes, monthsBytes, differences}
 use Rattle.compare.proofs.Marks.{leap-marked}
 use Rattle.compare.proofs.Ahead.{Ahead, begin, later-month, no-leap, has-leap, mark-is, past, counts}
 
 -- ---- months without a line
 
-no-line : (end : List ℕ) (a b : Schedule) (m : ℕ) → leapMark (leapsOf a) m ≡ zeroByte → leapMark (leapsOf b) m ≡ zeroByte → monthBytes end a b m ≡ []
+no-line : (end : List ℕ) (a b : Schedule) (m : ℕ) → leapMark (a .leaps) m ≡ zeroByte → leapMark (b .leaps) m ≡ zeroByte → monthBytes end a b m ≡ []
 unfolding monthBytes
-no-line end a b m p q = rw (leap-marked (leapsOf a) m, leap-marked (leapsOf b) m) (simp (p, q))
+no-line end a b m p q = rw (leap-marked (a .leaps) m, leap-marked (b .leaps) m) (simp (p, q))
 
 skip : (end : List ℕ) (a b : Schedule) (d m n : ℕ) → ((k : ℕ) → m ≤ k → k < m + d → monthBytes end a b k ≡ []) → monthsBytes end a b m (d + n) ≡ monthsBytes end a b (m + d) n
 unfolding monthsBytes
@@ -94,11 +92,11 @@ between-leaps end {a} {b} {i} {j} {m} x y n e =
     to-month end a b m n (omega (arith, x .up-to, y .up-to)) (omega (arith, most x))
     (λ k h g. no-line end a b k (no-leap x k h (omega arith)) (no-leap y k h (omega arith)))
 
-pub start-going : (lines : Bool) (a b : Schedule) (out : List ℕ) (at m : ℕ) → wellFormed a ≡ true → wellFormed b ≡ true → length (a .leaps) ≡ 256 → length (b .leaps) ≡ 256
+pub start-going : (lines : Bool) (a b : Schedule) (out : List ℕ) (at m : ℕ) → wellFormed a ≡ true → wellFormed b ≡ true
     → m ≡ min (firstMonth (leapsFrom a 0)) (firstMonth (leapsFrom b 0)) → Going lines a b out out at at 0 0 m
-start-going lines a b out at m w v full full′ e =
-    let x = begin a w full in
-    let y = begin b v full′ in
+start-going lines a b out at m w v e =
+    let x = begin a w in
+    let y = begin b v in
     record {
       a-ahead = later-month x m (omega arith) (omega arith);
       b-ahead = later-month y m (omega arith) (omega arith);
@@ -116,12 +114,12 @@ module _ {lines : Bool} {a b : Schedule} {start out : List ℕ} {at next i j m :
 
   module _ (h : m < pastMonths) where
     -- either has a leap at the month
-    some-leap : (hasLeap (leapsOf a) m || hasLeap (leapsOf b) m) ≡ true
+    some-leap : (hasLeap (a .leaps) m || hasLeap (b .leaps) m) ≡ true
     some-leap =
-        rw (leap-marked (leapsOf a) m, leap-marked (leapsOf b) m)
+        rw (leap-marked (a .leaps) m, leap-marked (b .leaps) m)
         (elim (decLe (firstMonth (leapsFrom a i)) (firstMonth (leapsFrom b j))) [
           | yes l ↦ rw (has-leap (g .a-ahead) (omega (arith, g .first)) h)
-          | no l ↦ rw (has-leap (g .b-ahead) (omega (arith, g .first)) h) (or-true (not (eqb (leapMark (leapsOf a) m) zeroByte)))
+          | no l ↦ rw (has-leap (g .b-ahead) (omega (arith, g .first)) h) (or-true (not (eqb (leapMark (a .leaps) m) zeroByte)))
         ])
 
     line-is : monthBytes (between lines) a b m ≡ markLine (between lines) m (markFrom a i m) (markFrom b j m)

@@ -63,7 +63,7 @@ both-printed x y t u =
 -- two texts are the same list exactly where they are equal, since a list has one spelling
 pub same-texts : (x y : List ℕ) → Taken x → Taken y → (told (relation (readAs x) (readAs y)) ≡ ascii "same") ↔ (x ≡ y)
 same-texts x y t u =
-    let s = says-same (readAs x) (readAs y) (read-formed x .full) (read-formed y .full) (accepted-well-formed x t) (accepted-well-formed y u) in
+    let s = says-same (readAs x) (readAs y) (accepted-well-formed x t) in
     (λ e. no-other x y t u (s .0 e), λ e. s .1 (ap readAs e))
 
 -- a comparison that is refused, with whatever number, changes nothing of the output

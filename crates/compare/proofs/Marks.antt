@@ -11,9 +11,7 @@ use borrow.Author.Tests.{ne-eqb, eq-eqb, eqb-false}
 use Rattle.format.specs.Ascii.{zeroByte}
 use Rattle.schedule.specs.declared.Sign.{Sign}
 use Rattle.schedule.specs.declared.Sign.the-variants.{Positive, Negative}
-use Rattle.schedule.specs.declared.Leap.{Leap}
-use Rattle.schedule.specs.declared.Schedule.{Schedule}
-use Rattle.schedule.specs.Schedule.{monthStart, leapsOf, gapsFit}
+use Rattle.schedule.specs.Schedule.{Leap, Schedule, monthStart, gapsFit}
 use Rattle.schedule.proofs.Cases.{by-bool}
 use Rattle.schedule.proofs.Expired.{is-expired, expired-from}
 use Rattle.schedule.proofs.Gaps.{fits-lt, first, later}
@@ -62,14 +60,14 @@ never-unknown (l ∷ ls) m = by-bool (eqb (l .month) m) (λ t. rw (t, sign-known
 
 module _ (s : Schedule) (m : ℕ) where
   -- a mark that is known is that of the leaps
-  pub known-mark : isUnknown s m ≡ false → mark s m ≡ leapMark (leapsOf s) m
-  known-mark f = ap (λ b. cond b endByte (leapMark (leapsOf s) m)) f
+  pub known-mark : isUnknown s m ≡ false → mark s m ≡ leapMark (s .leaps) m
+  known-mark f = ap (λ b. cond b endByte (leapMark (s .leaps) m)) f
 
   pub known : isUnknown s m ≡ false → mark s m ≢ 63
-  known f e = eqb-false (leapMark (leapsOf s) m) endByte (never-unknown (leapsOf s) m) (sym (known-mark f) ∙ e)
+  known f e = eqb-false (leapMark (s .leaps) m) endByte (never-unknown (s .leaps) m) (sym (known-mark f) ∙ e)
 
   unknown : isUnknown s m ≡ true → mark s m ≡ 63
-  unknown t = ap (λ b. cond b endByte (leapMark (leapsOf s) m)) t
+  unknown t = ap (λ b. cond b endByte (leapMark (s .leaps) m)) t
 
   pub not-unknown : mark s m ≢ 63 → isUnknown s m ≡ false
   not-unknown n = by-bool (isUnknown s m) (λ t. absurd (n (unknown t))) (λ f. f)

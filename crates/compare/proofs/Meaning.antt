@@ -12,9 +12,7 @@ use borrow.Author.Tests.{eqb-true, eq-eqb, ne-eqb}
 use Rattle.format.specs.Ascii.{ascii, zeroByte}
 use Rattle.schedule.specs.declared.Sign.{Sign}
 use Rattle.schedule.specs.declared.Sign.the-variants.{Positive, Negative}
-use Rattle.schedule.specs.declared.Leap.{Leap}
-use Rattle.schedule.specs.declared.Schedule.{Schedule}
-use Rattle.schedule.specs.Schedule.{monthStart, maxLeaps, leapsOf, gapsFit, wellFormed}
+use Rattle.schedule.specs.Schedule.{Leap, Schedule, monthStart, maxLeaps, gapsFit, wellFormed}
 use Rattle.schedule.proofs.WordLayout.{within}
 use Rattle.schedule.specs.Extends.{Extends, extends}
 use Rattle.schedule.proofs.Cases.{by-bool}
@@ -73,11 +71,11 @@ module _ (a b : Schedule) where
     λ p. rw (fails (p .0), fails (p .1)),
   )
 
-  -- `same` that each extends the other, and so (with 256 places, as every schedule of the code has) that the lists are equal
-  pub says-same : length (a .leaps) ≡ maxLeaps → length (b .leaps) ≡ maxLeaps → wellFormed a ≡ true → wellFormed b ≡ true → (told (relation a b) ≡ ascii "same") ↔ (a ≡ b)
+  -- `same` that each extends the other, and so that the lists are equal
+  pub says-same : wellFormed a ≡ true → (told (relation a b) ≡ ascii "same") ↔ (a ≡ b)
   unfolding relationBy
-  says-same full full′ w w′ = (
-    λ e. let p = relation-told (extends a b) (extends b a) true true e in both-ways a b full full′ w w′ (means (p .0)) (means (p .1)),
+  says-same w = (
+    λ e. let p = relation-told (extends a b) (extends b a) true true e in both-ways a b w (means (p .0)) (means (p .1)),
     λ e. let i = tests (extends-itself a w) in rw (← e, i),
   )
 
@@ -116,12 +114,12 @@ early (l ∷ ls) from e m g h =
 
 module _ (s : Schedule) (m : ℕ) where
   -- a well-formed list has a leap at a month exactly where its mark is one
-  leap-shown : wellFormed s ≡ true → (hasLeap (leapsOf s) m ≡ true) ↔ IsLeap (mark s m)
+  leap-shown : wellFormed s ≡ true → (hasLeap (s .leaps) m ≡ true) ↔ IsLeap (mark s m)
   leap-shown w = (
-    λ h. rw (known-mark s m (not-expired (s .expiry) m (early (leapsOf s) 0 (s .expiry) m (parts s w .gaps) h))) (marked-leap (leapsOf s) m h),
+    λ h. rw (known-mark s m (not-expired (s .expiry) m (early (s .leaps) 0 (s .expiry) m (parts s w .gaps) h))) (marked-leap (s .leaps) m h),
     λ l.
         let f = not-unknown s m (leap-known l) in
-        leap-marked (leapsOf s) m ∙ ap not (ap (λ (x : ℕ). eqb x zeroByte) (sym (known-mark s m f)) ∙ leap-some l),
+        leap-marked (s .leaps) m ∙ ap not (ap (λ (x : ℕ). eqb x zeroByte) (sym (known-mark s m f)) ∙ leap-some l),
   )
 
 or-true-iff : (x y : Bool) → ((x || y) ≡ true) ↔ ((x ≡ true) ⊎ (y ≡ true))
@@ -162,40 +160,40 @@ no-leap (l ∷ ls) m h =
     by-bool (eqb (l .month) m) (λ t. absurd (true≢false (sym (rw t refl) ∙ h))) (λ f. rw f (no-leap ls m (rw f at h)))
 
 -- the mark of a well-formed list is a sign's byte exactly where it has a leap of that sign
-sign-exactly : (s : Schedule) (m : ℕ) (g : Sign) → wellFormed s ≡ true → (mark s m ≡ signByte g) ↔ HasLeapOf (leapsOf s) m g
+sign-exactly : (s : Schedule) (m : ℕ) (g : Sign) → wellFormed s ≡ true → (mark s m ≡ signByte g) ↔ HasLeapOf (s .leaps) m g
 sign-exactly s m g w = (
-  λ e. marked-there (leapsOf s) m g (sym (known-mark s m (not-unknown s m (λ z. leap-known (sign-leap g) (sym e ∙ z)))) ∙ e),
+  λ e. marked-there (s .leaps) m g (sym (known-mark s m (not-unknown s m (λ z. leap-known (sign-leap g) (sym e ∙ z)))) ∙ e),
   λ h.
-      known-mark s m (not-expired (s .expiry) m (early (leapsOf s) 0 (s .expiry) m (parts s w .gaps) (is-there (leapsOf s) m g h)))
-      ∙ there-marked (leapsOf s) 0 (s .expiry) m g (parts s w .gaps) h,
+      known-mark s m (not-expired (s .expiry) m (early (s .leaps) 0 (s .expiry) m (parts s w .gaps) (is-there (s .leaps) m g h)))
+      ∙ there-marked (s .leaps) 0 (s .expiry) m g (parts s w .gaps) h,
 )
 
 -- the mark of a well-formed list is `+` exactly where it has a positive leap at that month, and `-` exactly where it has a negative one
-pub plus-exactly : (s : Schedule) (m : ℕ) → wellFormed s ≡ true → (mark s m ≡ 43) ↔ HasLeapOf (leapsOf s) m Positive
+pub plus-exactly : (s : Schedule) (m : ℕ) → wellFormed s ≡ true → (mark s m ≡ 43) ↔ HasLeapOf (s .leaps) m Positive
 plus-exactly s m w = sign-exactly s m Positive w
 
-pub minus-exactly : (s : Schedule) (m : ℕ) → wellFormed s ≡ true → (mark s m ≡ 45) ↔ HasLeapOf (leapsOf s) m Negative
+pub minus-exactly : (s : Schedule) (m : ℕ) → wellFormed s ≡ true → (mark s m ≡ 45) ↔ HasLeapOf (s .leaps) m Negative
 minus-exactly s m w = sign-exactly s m Negative w
 
 -- and `0` exactly where the month starts before the expiry and there is no leap
-pub none-exactly : (s : Schedule) (m : ℕ) → (mark s m ≡ 48) ↔ ((monthStart m < s .expiry) × (hasLeap (leapsOf s) m ≡ false))
+pub none-exactly : (s : Schedule) (m : ℕ) → (mark s m ≡ 48) ↔ ((monthStart m < s .expiry) × (hasLeap (s .leaps) m ≡ false))
 none-exactly s m = (
   λ e.
       let f = not-unknown s m (λ z. omega (arith, e, z)) in
-      (known-until (s .expiry) m f, leap-marked (leapsOf s) m ∙ ap not (eq-eqb (leapMark (leapsOf s) m) zeroByte (sym (known-mark s m f) ∙ e))),
-  λ p. known-mark s m (not-expired (s .expiry) m (p .0)) ∙ no-leap (leapsOf s) m (p .1),
+      (known-until (s .expiry) m f, leap-marked (s .leaps) m ∙ ap not (eq-eqb (leapMark (s .leaps) m) zeroByte (sym (known-mark s m f) ∙ e))),
+  λ p. known-mark s m (not-expired (s .expiry) m (p .0)) ∙ no-leap (s .leaps) m (p .1),
 )
 
 module _ (a b : Schedule) (m : ℕ) where
   -- the test of a line, in its parts
-  test-parts : (hasLine a b m ≡ true) ↔ (((hasLeap (leapsOf a) m ≡ true) ⊎ (hasLeap (leapsOf b) m ≡ true)) × (mark a m ≢ mark b m))
+  test-parts : (hasLine a b m ≡ true) ↔ (((hasLeap (a .leaps) m ≡ true) ⊎ (hasLeap (b .leaps) m ≡ true)) × (mark a m ≢ mark b m))
   test-parts = (
     λ t.
-        let p = and-eq-true-iff (hasLeap (leapsOf a) m || hasLeap (leapsOf b) m) (not (eqb (mark a m) (mark b m))) .0 t in (
-          or-true-iff (hasLeap (leapsOf a) m) (hasLeap (leapsOf b) m) .0 (p .0),
+        let p = and-eq-true-iff (hasLeap (a .leaps) m || hasLeap (b .leaps) m) (not (eqb (mark a m) (mark b m))) .0 t in (
+          or-true-iff (hasLeap (a .leaps) m) (hasLeap (b .leaps) m) .0 (p .0),
           λ e. true≢false (sym (p .1) ∙ ap not (eq-eqb (mark a m) (mark b m) e)),
         ),
-    λ p. rw (or-true-iff (hasLeap (leapsOf a) m) (hasLeap (leapsOf b) m) .1 (p .0), ne-eqb (mark a m) (mark b m) (p .1)),
+    λ p. rw (or-true-iff (hasLeap (a .leaps) m) (hasLeap (b .leaps) m) .1 (p .0), ne-eqb (mark a m) (mark b m) (p .1)),
   )
 
   -- a month has its line exactly where one list's mark is a leap and the other's is not that leap
@@ -203,7 +201,7 @@ module _ (a b : Schedule) (m : ℕ) where
   line-exactly w w′ = (
     λ t.
         let p = test-parts .0 t in (
-          ⊎-elim (λ (h : hasLeap (leapsOf a) m ≡ true). inl (leap-shown a m w .0 h)) (λ (h : hasLeap (leapsOf b) m ≡ true). inr (leap-shown b m w′ .0 h)) (p .0),
+          ⊎-elim (λ (h : hasLeap (a .leaps) m ≡ true). inl (leap-shown a m w .0 h)) (λ (h : hasLeap (b .leaps) m ≡ true). inr (leap-shown b m w′ .0 h)) (p .0),
           p .1,
         ),
     λ p. test-parts .1 (
@@ -216,5 +214,5 @@ module _ (a b : Schedule) (m : ℕ) where
   pub line-early : wellFormed a ≡ true → wellFormed b ≡ true → hasLine a b m ≡ true → m < 2401
   line-early w w′ t = ⊎-elim (inside a w) (inside b w′) (test-parts .0 t .0)
     where
-      inside : (s : Schedule) → wellFormed s ≡ true → hasLeap (leapsOf s) m ≡ true → m < 2401
-      inside s u h = omega (arith, within m (omega (arith, early (leapsOf s) 0 (s .expiry) m (parts s u .gaps) h, parts s u .end)))
+      inside : (s : Schedule) → wellFormed s ≡ true → hasLeap (s .leaps) m ≡ true → m < 2401
+      inside s u h = omega (arith, within m (omega (arith, early (s .leaps) 0 (s .expiry) m (parts s u .gaps) h, parts s u .end)))

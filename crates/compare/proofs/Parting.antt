@@ -12,8 +12,7 @@ use lib.Dec.{eqb}
 use lib.ListN.{length, length-append}
 use borrow.Author.Tests.{eqb-true, eqb-false, eq-eqb, ne-eqb}
 use Rattle.format.specs.Ascii.{ascii, zeroByte}
-use Rattle.schedule.specs.declared.Schedule.{Schedule}
-use Rattle.schedule.specs.Schedule.{maxLeaps, leapsOf, isExpired, wellFormed}
+use Rattle.schedule.specs.Schedule.{Schedule, maxLeaps, isExpired, wellFormed}
 use Rattle.schedule.specs.Extends.{Extends}
 use Rattle.schedule.proofs.Cases.{by-bool}
 use Rattle.schedule.proofs.Expired.{not-expired, known-until}
@@ -29,26 +28,26 @@ use Rattle.compare.proofs.Shown.{In, months-in, month-stands, differ-ex
 -- ---- months without a line
 
 -- where two marks of leaps differ there is a leap
-some-leap : (a b : Schedule) (m : ℕ) → leapMark (leapsOf a) m ≢ leapMark (leapsOf b) m → (hasLeap (leapsOf a) m || hasLeap (leapsOf b) m) ≡ true
+some-leap : (a b : Schedule) (m : ℕ) → leapMark (a .leaps) m ≢ leapMark (b .leaps) m → (hasLeap (a .leaps) m || hasLeap (b .leaps) m) ≡ true
 some-leap a b m n =
-    rw (leap-marked (leapsOf a) m, leap-marked (leapsOf b) m)
-    (by-bool (eqb (leapMark (leapsOf a) m) zeroByte)
+    rw (leap-marked (a .leaps) m, leap-marked (b .leaps) m)
+    (by-bool (eqb (leapMark (a .leaps) m) zeroByte)
     (λ t.
-    by-bool (eqb (leapMark (leapsOf b) m) zeroByte)
-    (λ u. absurd (n (eqb-true (leapMark (leapsOf a) m) zeroByte t ∙ sym (eqb-true (leapMark (leapsOf b) m) zeroByte u))))
+    by-bool (eqb (leapMark (b .leaps) m) zeroByte)
+    (λ u. absurd (n (eqb-true (leapMark (a .leaps) m) zeroByte t ∙ sym (eqb-true (leapMark (b .leaps) m) zeroByte u))))
     (λ u. rw (t, u)))
     (λ f. rw f))
 
 module _ (a b : Schedule) (m : ℕ) (f : isExpired (a .expiry) m ≡ false) (g : isExpired (b .expiry) m ≡ false) where
   -- a month that both know has its line where their leaps differ
-  line-known : leapMark (leapsOf a) m ≢ leapMark (leapsOf b) m → hasLine a b m ≡ true
+  line-known : leapMark (a .leaps) m ≢ leapMark (b .leaps) m → hasLine a b m ≡ true
   line-known n = rw (some-leap a b m n, ne-eqb (mark a m) (mark b m) (λ z. n (sym (known-mark a m f) ∙ (z ∙ known-mark b m g))))
 
   -- and where it has none they are alike
-  no-line-alike : hasLine a b m ≡ false → leapMark (leapsOf a) m ≡ leapMark (leapsOf b) m
+  no-line-alike : hasLine a b m ≡ false → leapMark (a .leaps) m ≡ leapMark (b .leaps) m
   no-line-alike e =
-      by-bool (eqb (leapMark (leapsOf a) m) (leapMark (leapsOf b) m)) (λ t. eqb-true (leapMark (leapsOf a) m) (leapMark (leapsOf b) m) t)
-      (λ n. absurd (true≢false (sym (line-known (eqb-false (leapMark (leapsOf a) m) (leapMark (leapsOf b) m) n)) ∙ e)))
+      by-bool (eqb (leapMark (a .leaps) m) (leapMark (b .leaps) m)) (λ t. eqb-true (leapMark (a .leaps) m) (leapMark (b .leaps) m) t)
+      (λ n. absurd (true≢false (sym (line-known (eqb-false (leapMark (a .leaps) m) (leapMark (b .leaps) m) n)) ∙ e)))
 
 -- ---- a line without `?`
 
@@ -64,13 +63,13 @@ pub record Parting (a b : Schedule) : Type 0 where
 -- the months before n that a list knows are marked alike, or one is not
 module _ (a b : Schedule) (e : ℕ) where
   abbrev Alike : ℕ → Type 0
-  Alike m = leapMark (leapsOf a) m ≡ leapMark (leapsOf b) m
+  Alike m = leapMark (a .leaps) m ≡ leapMark (b .leaps) m
 
   record Unlike (n : ℕ) : Type 0 where
     month : ℕ
     inside : month < n
     known-there : isExpired e month ≡ false
-    unlike : leapMark (leapsOf a) month ≢ leapMark (leapsOf b) month
+    unlike : leapMark (a .leaps) month ≢ leapMark (b .leaps) month
 
   one-more : (n : ℕ) → (((m : ℕ) → m < n → isExpired e m ≡ false → Alike m) ⊎ Unlike n) → ((m : ℕ) → m < suc n → isExpired e m ≡ false → Alike m) ⊎ Unlike (suc n)
   one-more n (inr u) = inr (record { month = u .month; inside = omega (arith, u .inside); known-there = u .known-there; unlike = u .unlike })
@@ -78,11 +77,11 @@ module _ (a b : Schedule) (e : ℕ) where
       by-bool (isExpired e n)
       (λ t. inl (λ m h k. ⊎-elim (λ (z : m ≡ n). absurd (true≢false (sym t ∙ (ap (isExpired e) (sym z) ∙ k)))) (λ (l : m < n). f m l k) (eq-or-lt-of-le (le-of-suc-le-suc h))))
       (λ g.
-      by-bool (eqb (leapMark (leapsOf a) n) (leapMark (leapsOf b) n))
+      by-bool (eqb (leapMark (a .leaps) n) (leapMark (b .leaps) n))
       (λ t.
       inl (λ m h k.
-      ⊎-elim (λ (z : m ≡ n). rw z (eqb-true (leapMark (leapsOf a) n) (leapMark (leapsOf b) n) t)) (λ (l : m < n). f m l k) (eq-or-lt-of-le (le-of-suc-le-suc h))))
-      (λ n′. inr (record { month = n; inside = omega arith; known-there = g; unlike = eqb-false (leapMark (leapsOf a) n) (leapMark (leapsOf b) n) n′ })))
+      ⊎-elim (λ (z : m ≡ n). rw z (eqb-true (leapMark (a .leaps) n) (leapMark (b .leaps) n) t)) (λ (l : m < n). f m l k) (eq-or-lt-of-le (le-of-suc-le-suc h))))
+      (λ n′. inr (record { month = n; inside = omega arith; known-there = g; unlike = eqb-false (leapMark (a .leaps) n) (leapMark (b .leaps) n) n′ })))
 
   found : (n : ℕ) → ((m : ℕ) → m < n → isExpired e m ≡ false → Alike m) ⊎ Unlike n
   found zero = inl (λ m h k. absurd (not-suc-le-zero h))
@@ -113,20 +112,20 @@ module _ (a b : Schedule) (w : wellFormed a ≡ true) (w′ : wellFormed b ≡ t
       elim (decLe (b .expiry) (a .expiry)) [
         | yes h ↦
             ⊎-elim
-            (λ (f : (m : ℕ) → m < 2401 → isExpired (b .expiry) m ≡ false → leapMark (leapsOf a) m ≡ leapMark (leapsOf b) m).
+            (λ (f : (m : ℕ) → m < 2401 → isExpired (b .expiry) m ≡ false → leapMark (a .leaps) m ≡ leapMark (b .leaps) m).
             inl (by-marks a b w w′ h (λ m k. f m (known-early b w′ m k) k)))
             (λ (u : Unlike a b (b .expiry) 2401). inr (inr (parts-at h (omega arith) u)))
             (found a b (b .expiry) 2401)
         | no h ↦
             ⊎-elim
-            (λ (f : (m : ℕ) → m < 2401 → isExpired (a .expiry) m ≡ false → leapMark (leapsOf a) m ≡ leapMark (leapsOf b) m).
+            (λ (f : (m : ℕ) → m < 2401 → isExpired (a .expiry) m ≡ false → leapMark (a .leaps) m ≡ leapMark (b .leaps) m).
             inr (inl (by-marks b a w′ w (omega arith) (λ m k. sym (f m (known-early a w m k) k)))))
             (λ (u : Unlike a b (a .expiry) 2401). inr (inr (parts-at (omega arith) (omega arith) u)))
             (found a b (a .expiry) 2401)
       ]
 
   -- what both lists know and say otherwise
-  not-alike : (p : Parting a b) → (isExpired (a .expiry) (p .month) ≡ false) × (isExpired (b .expiry) (p .month) ≡ false) × (leapMark (leapsOf a) (p .month) ≢ leapMark (leapsOf b) (p .month))
+  not-alike : (p : Parting a b) → (isExpired (a .expiry) (p .month) ≡ false) × (isExpired (b .expiry) (p .month) ≡ false) × (leapMark (a .leaps) (p .month) ≢ leapMark (b .leaps) (p .month))
   not-alike p =
       let s = differ-exactly a b w w′ (p .month) (p .first) (p .second) .0 (p .line) in
       let f = not-unknown a (p .month) (λ z. p .first-known (s .0 ∙ z)) in
@@ -156,7 +155,7 @@ each-none a b m n e k h g =
 
 -- a list compared with itself has none
 no-line : (a : Schedule) (m : ℕ) → hasLine a a m ≡ false
-no-line a m = rw (eq-eqb (mark a m) (mark a m) refl) (and-false (hasLeap (leapsOf a) m || hasLeap (leapsOf a) m))
+no-line a m = rw (eq-eqb (mark a m) (mark a m) refl) (and-false (hasLeap (a .leaps) m || hasLeap (a .leaps) m))
 
 no-lines : (a : Schedule) (m n : ℕ) → monthLines a a m n ≡ []
 unfolding monthLines lineAt
@@ -182,7 +181,7 @@ others-none xs ys l k e =
     let n : length xs + (length ys + 1) ≡ 1 = sym (length-append xs (ys ++ (l ∷ [])) ∙ ap (λ (z : ℕ). length xs + z) (length-append ys (l ∷ []))) ∙ ap length e in
     (none xs (omega arith), none ys (omega arith))
 
-module _ (a b : Schedule) (full : length (a .leaps) ≡ maxLeaps) (full′ : length (b .leaps) ≡ maxLeaps) (w : wellFormed a ≡ true) (w′ : wellFormed b ≡ true) where
+module _ (a b : Schedule) (w : wellFormed a ≡ true) (w′ : wellFormed b ≡ true) where
   -- the last line stands alone exactly where the lists are equal
   pub alone-if-equal : (linesOf a b ≡ relation a b ∷ []) ↔ (a ≡ b)
   unfolding linesOf
@@ -190,15 +189,15 @@ module _ (a b : Schedule) (full : length (a .leaps) ≡ maxLeaps) (full′ : len
     λ e.
         let p = others-none (monthLines a b 0 2401) (expiryLines a b) (relation a b) (relation a b) e in
         let z = expiries-same a b (p .1) in
-        let alike : (m : ℕ) → isExpired (a .expiry) m ≡ false → leapMark (leapsOf a) m ≡ leapMark (leapsOf b) m
+        let alike : (m : ℕ) → isExpired (a .expiry) m ≡ false → leapMark (a .leaps) m ≡ leapMark (b .leaps) m
         = λ m f. no-line-alike a b m f (rw z at f) (each-none a b 0 2401 (p .0) m (omega arith) (omega (arith, known-early a w m f))) in
-        both-ways a b full full′ w w′ (by-marks a b w w′ (omega (arith, z)) (λ m f. alike m (rw z f))) (by-marks b a w′ w (omega (arith, z)) (λ m f. sym (alike m f))),
+        both-ways a b w (by-marks a b w w′ (omega (arith, z)) (λ m f. alike m (rw z f))) (by-marks b a w′ w (omega (arith, z)) (λ m f. sym (alike m f))),
     λ e. rw (← e, no-lines a 0 2401, no-expiries a),
   )
 
   -- and exactly where it is `same`
   pub alone-if-same : (linesOf a b ≡ relation a b ∷ []) ↔ (told (relation a b) ≡ ascii "same")
   alone-if-same = (
-    λ e. says-same a b full full′ w w′ .1 (alone-if-equal .0 e),
-    λ e. alone-if-equal .1 (says-same a b full full′ w w′ .0 e),
+    λ e. says-same a b w .1 (alone-if-equal .0 e),
+    λ e. alone-if-equal .1 (says-same a b w .0 e),
   )

@@ -13,15 +13,13 @@ use Rattle.format.specs.Ascii.{zeroByte}
 use Rattle.format.specs.Decimal.{decimal}
 use Rattle.format.proofs.Digits.{decimal-short}
 use Rattle.format.specs.Lines.{newline, spaceByte, between}
-use Rattle.schedule.specs.declared.Leap.{Leap}
-use Rattle.schedule.specs.declared.Schedule.{Schedule}
-use Rattle.schedule.specs.Schedule.{leapsOf, gapsFit, wellFormed}
+use Rattle.schedule.specs.Schedule.{Leap, Schedule, gapsFit, wellFormed}
 use Rattle.schedule.specs.Extends.{extends}
 use Rattle.schedule.proofs.Cases.{by-bool}
 use Rattle.schedule.proofs.Gaps.{fits-le, first, parts}
 use Rattle.compare.proofs.Marks.{leap-marked}
 use Rattle.compare.specs.Compare.{leapMark, mark, relationBy, compared}
-use Rattle.compare.specs.Inner.{lineBytes, monthBytes, monthsBytes, expiryBytes, comparison}
+use Rattle.compare.specs.Private.{lineBytes, monthBytes, monthsBytes, expiryBytes, comparison}
 use Rattle.compare.proofs.Bytes.{compared-bytes}
 
 -- the most bytes of the line of a month
@@ -50,10 +48,10 @@ total ls m (suc n) = weight ls m + total ls (m + 1) n
 full-line : (m x y : ℕ) → length (lineBytes (newline ∷ []) m x y) ≡ length (decimal m) + 5
 full-line m x y = length-append (decimal m) (spaceByte ∷ x ∷ spaceByte ∷ y ∷ newline ∷ [])
 
-line-weight : (a b : Schedule) (m : ℕ) → m < 10000 → length (monthBytes (newline ∷ []) a b m) ≤ weight (leapsOf a) m + weight (leapsOf b) m
+line-weight : (a b : Schedule) (m : ℕ) → m < 10000 → length (monthBytes (newline ∷ []) a b m) ≤ weight (a .leaps) m + weight (b .leaps) m
 unfolding monthBytes weight
 line-weight a b m h =
-    rw (leap-marked (leapsOf a) m, leap-marked (leapsOf b) m) (go (eqb (leapMark (leapsOf a) m) zeroByte) (eqb (leapMark (leapsOf b) m) zeroByte) (eqb (mark a m) (mark b m)))
+    rw (leap-marked (a .leaps) m, leap-marked (b .leaps) m) (go (eqb (leapMark (a .leaps) m) zeroByte) (eqb (leapMark (b .leaps) m) zeroByte) (eqb (mark a m) (mark b m)))
   where
     line : List ℕ
     line = lineBytes (newline ∷ []) m (mark a m) (mark b m)
@@ -71,7 +69,7 @@ line-weight a b m h =
     go false false true = omega arith
     go false false false = omega (arith, fits)
 
-lines-weight : (a b : Schedule) (m n : ℕ) → m + n ≤ 2401 → length (monthsBytes (newline ∷ []) a b m n) ≤ total (leapsOf a) m n + total (leapsOf b) m n
+lines-weight : (a b : Schedule) (m n : ℕ) → m + n ≤ 2401 → length (monthsBytes (newline ∷ []) a b m n) ≤ total (a .leaps) m n + total (b .leaps) m n
 unfolding monthsBytes total
 lines-weight a b m zero h = omega arith
 lines-weight a b m (suc n) h =
@@ -134,8 +132,8 @@ list-most (l ∷ ls) e n f h =
 
 -- ---- the whole
 
-few-leaps : (s : Schedule) → wellFormed s ≡ true → length (leapsOf s) ≤ 256
-few-leaps s w = omega (arith, length-take (s .count) (s .leaps), parts s w .room)
+few-leaps : (s : Schedule) → wellFormed s ≡ true → length (s .leaps) ≤ 256
+few-leaps s w = parts s w .room
 
 expiries-most : (a b : Schedule) → wellFormed a ≡ true → wellFormed b ≡ true → length (expiryBytes (newline ∷ []) a b) ≤ 16
 unfolding expiryBytes
@@ -158,8 +156,8 @@ bytes-most a b w v =
     (omega (
       arith,
       lines-weight a b 0 2401 (omega arith),
-      list-most (leapsOf a) (a .expiry) 2401 (parts a w .gaps) (few-leaps a w),
-      list-most (leapsOf b) (b .expiry) 2401 (parts b v .gaps) (few-leaps b v),
+      list-most (a .leaps) (a .expiry) 2401 (parts a w .gaps) (few-leaps a w),
+      list-most (b .leaps) (b .expiry) 2401 (parts b v .gaps) (few-leaps b v),
       expiries-most a b w v,
       relation-most (extends a b) (extends b a),
     ))

@@ -16,9 +16,7 @@ use Rattle.format.proofs.Fields.{hasNo}
 use Rattle.format.proofs.Unbroken.{Unbroken, empty, more, append, in-decimal, first-part}
 use Rattle.schedule.specs.declared.Sign.{Sign}
 use Rattle.schedule.specs.declared.Sign.the-variants.{Positive, Negative}
-use Rattle.schedule.specs.declared.Leap.{Leap}
-use Rattle.schedule.specs.declared.Schedule.{Schedule}
-use Rattle.schedule.specs.Schedule.{leapsOf, wellFormed}
+use Rattle.schedule.specs.Schedule.{Leap, Schedule, wellFormed}
 use Rattle.schedule.specs.Extends.{extends}
 use Rattle.schedule.proofs.Cases.{by-bool}
 use Rattle.text.specs.Bytes.{signByte}
@@ -251,7 +249,7 @@ leap-mark [] m = refl
 leap-mark (l ∷ ls) m = by-bool (eqb (l .month) m) (λ t. rw t (sign (l .sign))) (λ f. rw f (leap-mark ls m))
 
 in-mark : (s : Schedule) (m : ℕ) → eqb (mark s m) newline ≡ false
-in-mark s m = by-bool (isUnknown s m) (λ t. rw t refl) (λ f. rw f (leap-mark (leapsOf s) m))
+in-mark s m = by-bool (isUnknown s m) (λ t. rw t refl) (λ f. rw f (leap-mark (s .leaps) m))
 
 abbrev pub AllUnbroken : List Line → Type 0
 AllUnbroken [] = Unit {0}

@@ -8,10 +8,8 @@ use native.Mathlib.Decide.{decLt}
 use native.Mathlib.Omega.{arith}
 use lib.Dec.{eqb}
 use borrow.Author.Tests.{eq-eqb, ne-eqb, eqb-true}
-use Rattle.schedule.specs.declared.Leap.{Leap}
-use Rattle.schedule.specs.declared.Schedule.{Schedule}
 use Rattle.calendar.proofs.Laws.{start-lt}
-use Rattle.schedule.specs.Schedule.{monthStart, leapsOf, isExpired, gapsFit, wellFormed}
+use Rattle.schedule.specs.Schedule.{Leap, Schedule, monthStart, isExpired, gapsFit, wellFormed}
 use Rattle.schedule.specs.Extends.{below, Extends}
 use Rattle.schedule.proofs.Cases.{by-bool}
 use Rattle.schedule.proofs.Expired.{not-expired, expired-from}
@@ -94,11 +92,11 @@ told from (x ∷ xs) (y ∷ ys) e f g h a =
 -- ---- two lists
 
 -- a list marks what a shorter one knows as that one does
-pub marks-kept : {a b : Schedule} → Extends a b → (m : ℕ) → isExpired (b .expiry) m ≡ false → leapMark (leapsOf a) m ≡ leapMark (leapsOf b) m
-marks-kept {a} {b} x m f = sym (below-marks (b .expiry) (leapsOf a) m f) ∙ ap (λ ls. leapMark ls m) (x .same)
+pub marks-kept : {a b : Schedule} → Extends a b → (m : ℕ) → isExpired (b .expiry) m ≡ false → leapMark (a .leaps) m ≡ leapMark (b .leaps) m
+marks-kept {a} {b} x m f = sym (below-marks (b .expiry) (a .leaps) m f) ∙ ap (λ ls. leapMark ls m) (x .same)
 
 -- and one that does so, and expires no earlier, extends it
 pub by-marks : (a b : Schedule) → wellFormed a ≡ true → wellFormed b ≡ true → b .expiry ≤ a .expiry
-    → ((m : ℕ) → isExpired (b .expiry) m ≡ false → leapMark (leapsOf a) m ≡ leapMark (leapsOf b) m) → Extends a b
+    → ((m : ℕ) → isExpired (b .expiry) m ≡ false → leapMark (a .leaps) m ≡ leapMark (b .leaps) m) → Extends a b
 by-marks a b w w′ h alike =
-    record { same = told 0 (leapsOf a) (leapsOf b) (a .expiry) (b .expiry) (parts a w .gaps) (parts b w′ .gaps) alike; later = h }
+    record { same = told 0 (a .leaps) (b .leaps) (a .expiry) (b .expiry) (parts a w .gaps) (parts b w′ .gaps) alike; later = h }

@@ -7,15 +7,16 @@ use mathlib.Core.Logic.{_≢_}
 use Prim.Native.Nat.{ℕ}
 use lib.Dec.{eqb}
 use borrow.Author.Tests.{eqb-true, eqb-false}
-use Rattle.schedule.specs.declared.Schedule.{Schedule}
-use Rattle.schedule.specs.Schedule.{wellFormed}
+use Rattle.schedule.specs.Schedule.{Schedule, wellFormed}
 use Rattle.schedule.proofs.Cases.{by-bool}
+use Rattle.schedule.specs.WordLayout.{meant}
+use Rattle.schedule.specs.Answers.{HandsReading}
 use Rattle.schedule.proofs.ByReading.{read-refused, read-taken}
+use Rattle.schedule.proofs.Meant.{hands-meant}
 use Rattle.text.specs.Read.{readText}
-use Rattle.text.proofs.Sound.{accepted-well-formed}
-use Rattle.compare.specs.declared.texts.Both.{Both}
+use Rattle.text.proofs.Sound.{read-formed, accepted-well-formed}
 use Rattle.compare.specs.Longer.{aboutBoth}
-use Rattle.compare.specs.Inner.{notRead, bothRead}
+use Rattle.compare.specs.Private.{BothRead}
 
 -- the list that a text is read as
 abbrev pub readAs : List ℕ → Schedule
@@ -49,44 +50,46 @@ by-texts x y f g h =
 -- ---- as the code reads them
 
 module _ (x y : List ℕ) where
-  first-not : readText x .number ≢ 0 → bothRead x y ≡ notRead (readText x .number)
-  unfolding bothRead
-  first-not n = first-refused x y _ _ n
-
-  second-not : Taken x → readText y .number ≢ 0 → bothRead x y ≡ notRead (readText y .number)
-  unfolding bothRead
-  second-not t n = second-refused x y _ _ t n
-
-  read-both : Taken x → Taken y → bothRead x y ≡ record { number = 0; first = readAs x; second = readAs y }
-  unfolding bothRead
-  read-both t u = both-taken x y _ _ t u
-
-  module _ {r : Both} (e : r ≡ bothRead x y) where
-    number-of : {b : Both} → bothRead x y ≡ b → r .number ≡ b .number
-    number-of z = ap (λ (q : Both). q .number) (e ∙ z)
-
+  module _ {n : ℕ} {a b : List ℕ} (r : BothRead x y n a b) where
     -- the code's number is not 0: an answer is the refusal
-    pub refused : {A : Type 0} (refuse : ℕ → A) (f : Schedule → Schedule → A) → r .number ≢ 0 → aboutBoth x y refuse f ≡ refuse (r .number)
-    refused refuse f n =
-        by-texts x y (λ k. first-refused x y refuse f k ∙ ap refuse (sym (number-of (first-not k))))
-        (λ t k. second-refused x y refuse f t k ∙ ap refuse (sym (number-of (second-not t k))))
-        (λ t u. absurd (n (number-of (read-both t u))))
+    pub refused : {A : Type 0} (refuse : ℕ → A) (f : Schedule → Schedule → A) → n ≢ 0 → aboutBoth x y refuse f ≡ refuse n
+    refused refuse f h =
+        by-texts x y (λ k. first-refused x y refuse f k ∙ ap refuse (sym (r .its-number ∙ first-refused x y _ _ k)))
+        (λ t k. second-refused x y refuse f t k ∙ ap refuse (sym (r .its-number ∙ second-refused x y _ _ t k)))
+        (λ t u. absurd (h (r .its-number ∙ both-taken x y _ _ t u)))
 
-    module _ (z : r .number ≡ 0) where
+    module _ (z : n ≡ 0) where
       both : Taken x × Taken y
       both =
-          by-texts x y (λ k. absurd (k (sym (number-of (first-not k)) ∙ z))) (λ t k. absurd (k (sym (number-of (second-not t k)) ∙ z)))
+          by-texts x y (λ k. absurd (k (sym (first-refused x y _ _ k) ∙ (sym (r .its-number) ∙ z))))
+          (λ t k. absurd (k (sym (second-refused x y _ _ t k) ∙ (sym (r .its-number) ∙ z))))
           (λ t u. (t, u))
 
-      whole : r ≡ record { number = 0; first = readAs x; second = readAs y }
-      whole = e ∙ read-both (both .0) (both .1)
+      -- it is 0: an answer is one about the lists that the words mean, and they are well formed
+      pub taken : {A : Type 0} (refuse : ℕ → A) (f : Schedule → Schedule → A) → aboutBoth x y refuse f ≡ f (meant a) (meant b)
+      taken refuse f = both-taken x y refuse f (both .0) (both .1) ∙ rw (r .first z, r .second z)
 
-      -- it is 0: an answer is one about the lists that the code has, and they are well formed
-      pub taken : {A : Type 0} (refuse : ℕ → A) (f : Schedule → Schedule → A) → aboutBoth x y refuse f ≡ f (r .first) (r .second)
-      taken refuse f = both-taken x y refuse f (both .0) (both .1) ∙ sym (ap (λ (q : Both). f (q .first) (q .second)) whole)
+      pub formed : (wellFormed (meant a) ≡ true) × (wellFormed (meant b) ≡ true)
+      formed = (ap wellFormed (r .first z) ∙ accepted-well-formed x (both .0), ap wellFormed (r .second z) ∙ accepted-well-formed y (both .1))
 
-      pub formed : (wellFormed (r .first) ≡ true) × (wellFormed (r .second) ≡ true)
-      formed = (
-        ap (λ (q : Both). wellFormed (q .first)) whole ∙ accepted-well-formed x (both .0),
-        ap (λ (q : Both). wellFormed (q .second)) whole ∙ accepted-well-formed y (both .1),
-      )
+-- the first text is refused
+pub first-stops : (x y : List ℕ) {n p : ℕ} {a b : List ℕ} → HandsReading (readText x) n a p → n ≢ 0 → BothRead x y n a b
+first-stops x y h k =
+    record {
+      its-number = h .its-number ∙ sym (first-refused x y (λ n. n) (λ s t. 0) (λ z. k (h .its-number ∙ z)));
+      first = λ z. absurd (k z);
+      second = λ z. absurd (k z);
+    }
+
+-- the first is read, and the second's number is the number
+pub second-tells : (x y : List ℕ) {m n p q : ℕ} {a b : List ℕ} → HandsReading (readText x) m a p → m ≡ 0 → HandsReading (readText y) n b q → BothRead x y n a b
+second-tells x y h z g =
+    let t : Taken x = sym (h .its-number) ∙ z in
+    record {
+      its-number =
+          by-bool (eqb (readText y .number) 0)
+          (λ e. let u = eqb-true (readText y .number) 0 e in g .its-number ∙ (u ∙ sym (both-taken x y (λ n. n) (λ s t. 0) t u)))
+          (λ e. g .its-number ∙ sym (second-refused x y (λ n. n) (λ s t. 0) t (eqb-false (readText y .number) 0 e)));
+      first = λ _. hands-meant (readText x) (read-formed x) _ _ _ h;
+      second = λ _. hands-meant (readText y) (read-formed y) _ _ _ g;
+    }

@@ -7,10 +7,8 @@ use lib.Dec.{eqb}
 use Rattle.format.specs.Ascii.{ascii, zeroByte}
 use Rattle.format.specs.Decimal.{decimal}
 use Rattle.format.specs.Lines.{newline, spaceByte, between}
-use Rattle.schedule.specs.declared.Leap.{Leap}
-use Rattle.schedule.specs.declared.Schedule.{Schedule}
 use Rattle.schedule.specs.declared.Writing.{Writing}
-use Rattle.schedule.specs.Schedule.{leapsOf, lastMonth, isExpired}
+use Rattle.schedule.specs.Schedule.{Leap, Schedule, lastMonth, isExpired}
 use Rattle.schedule.specs.Answers.{unwritten, fitting, fitted}
 use Rattle.schedule.specs.Extends.{extends}
 use Rattle.text.specs.Bytes.{signByte, endByte}
@@ -32,7 +30,7 @@ isUnknown s m = isExpired (s .expiry) m
 
 -- "mark": `?` at and after the list's expiry, and before it what its leaps say
 abbrev pub mark : Schedule → ℕ → ℕ
-mark s m = cond (isUnknown s m) endByte (leapMark (leapsOf s) m)
+mark s m = cond (isUnknown s m) endByte (leapMark (s .leaps) m)
 
 -- a line of a comparison: a month, the first mark and the second mark; both expiries; or how the two lists stand to each other, by whether the
 -- first extends the second, and the second the first
@@ -43,7 +41,7 @@ pub data Line : Type 0 where
 
 -- a month has a line if either list has a leap there and their marks differ
 abbrev pub hasLine : Schedule → Schedule → ℕ → Bool
-hasLine a b m = (hasLeap (leapsOf a) m || hasLeap (leapsOf b) m) && not (eqb (mark a m) (mark b m))
+hasLine a b m = (hasLeap (a .leaps) m || hasLeap (b .leaps) m) && not (eqb (mark a m) (mark b m))
 
 -- its line, if it has one
 unfoldable pub lineAt : Schedule → Schedule → ℕ → List Line

@@ -7,17 +7,16 @@ ghost use lib.ListN.{length};
 ghost use Rattle.format.specs.Output.{PutsUpTo};
 ghost use Rattle.format.specs.Lines.{between};
 ghost use Rattle.schedule.specs.Schedule.{wellFormed};
+ghost use Rattle.schedule.specs.WordLayout.{meant};
 ghost use Rattle.schedule.specs.Answers.{fitting, fitted};
-ghost use Rattle.compare.specs.Compare.{isUnknown, relationBy, compared, comparing, comparedInto, comparisonOf};
-ghost use Rattle.compare.specs.Inner.{firstMonth, leapsFrom, markOfLeap, markFrom, markLine, differences, expiryBytes, comparison};
+ghost use Rattle.compare.specs.Compare.{relationBy, compared, comparing, comparedInto, comparisonOf};
+ghost use Rattle.compare.specs.Private.{firstMonth, leapsFrom, lastKnown, markFrom, markLine, differences, expiryBytes, comparison};
 use crate::texts::read_both;
 use format::decimal::put_decimal;
 use format::decimal::wide;
 use format::lines::put_between;
 use format::output::put;
 use format::output::put_all;
-use schedule::Leap;
-use schedule::Schedule;
 use schedule::Writing;
 
 // Past the last month.
@@ -26,59 +25,46 @@ const PAST_MONTHS: u32 = schedule::LAST_MONTH + 1;
 // The most bytes of a comparison in LF-ended lines: 510 lines of 9 for leaps and 2 of 8, 16 for the expiries and 11 for the last line.
 const ROOM: usize = 4633;
 
-// The mark of a leap at a month.
-fn mark_of_leap(l: Leap, month: u32) -> u8
-    ensures { λ r. ⌜ r ≡ markOfLeap l month ⌝ }
-{
-    if schedule::wide(l.month) == month {
-        let sign = l.sign;
-        return text::sign_byte(sign);
-    }
-    b'0'
-}
-
 // The month of the first leap from a place on; a month past the last where there is none.
-fn first_month(s: Schedule, i: usize) -> u32
-    requires { ⌜ wellFormed s ≡ true ⌝ }
-    ensures { λ r. ⌜ r ≡ firstMonth (leapsFrom s i) ⌝ }
+fn first_month(words: &[u32; 514], i: usize) -> u32
+    requires { ⌜ wellFormed (meant (now words)) ≡ true ⌝ }
+    ensures { λ r. ⌜ r ≡ firstMonth (leapsFrom (meant (now (words .entry))) i) ⌝ }
 {
-    let count = s.count;
-    if i < count {
-        return schedule::wide(s.leaps[i].month);
+    if i < schedule::count_of(words) {
+        return schedule::month_at(words, i);
     }
     PAST_MONTHS
 }
 
-// Whether a list knows nothing of a month.
-fn is_unknown(s: Schedule, month: u32) -> bool
-    requires { ⌜ month ≤ 2400 ⌝ }
-    ensures { λ r. ⌜ r ≡ isUnknown s month ⌝ }
+// The last month that a list knows of, which is the last one that starts before its expiry.
+fn last_known(words: &[u32; 514]) -> u32
+    requires { ⌜ wellFormed (meant (now words)) ≡ true ⌝ }
+    ensures { λ r. ⌜ r ≡ lastKnown (meant (now (words .entry))) ⌝ }
 {
-    schedule::is_expired(s.expiry, month)
+    let expiry = schedule::expiry_of(words);
+    schedule::wide(calendar::latest_month((expiry - 1) as u64))
 }
 
-// The mark of a list at a month, before which its leaps up to a place lie.
-fn mark_from(s: Schedule, i: usize, month: u32) -> u8
-    requires { ⌜ (wellFormed s ≡ true) × (month ≤ 2400) ⌝ }
-    ensures { λ r. ⌜ r ≡ markFrom s i month ⌝ }
+// The mark of a list at a month, before which its leaps up to a place lie, by the last month that it knows of.
+fn mark_from(words: &[u32; 514], i: usize, known: u32, month: u32) -> u8
+    requires { ⌜ (wellFormed (meant (now words)) ≡ true) × (known ≡ lastKnown (meant (now words))) × (month ≤ 2400) ⌝ }
+    ensures { λ r. ⌜ r ≡ markFrom (meant (now (words .entry))) i month ⌝ }
 {
-    let count = s.count;
-    if is_unknown(s, month) {
+    if known < month {
         return b'?';
     }
-    if i < count {
-        let l = s.leaps[i];
-        return mark_of_leap(l, month);
+    if month == first_month(words, i) {
+        return text::sign_byte(schedule::sign_at(words, i));
     }
     b'0'
 }
 
 // The place of the first leap after a month, where that of the first at or after it is given.
-fn passed(s: Schedule, i: usize, month: u32) -> usize
-    requires { ⌜ (wellFormed s ≡ true) × (i ≤ s .count) ⌝ }
-    ensures { λ r. ⌜ r ≡ cond (eqb (firstMonth (leapsFrom s i)) month) (i + 1) i ⌝ }
+fn passed(words: &[u32; 514], i: usize, month: u32) -> usize
+    requires { ⌜ (wellFormed (meant (now words)) ≡ true) × (i ≤ length (meant (now words) .leaps)) ⌝ }
+    ensures { λ r. ⌜ r ≡ cond (eqb (firstMonth (leapsFrom (meant (now (words .entry))) i)) month) (i + 1) i ⌝ }
 {
-    if first_month(s, i) == month {
+    if first_month(words, i) == month {
         return i + 1;
     }
     i
@@ -111,10 +97,13 @@ fn put_line(out: &mut [u8], at: usize, lines: bool, month: u32, x: u8, y: u8) ->
 }
 
 // Puts a line for each month at which either list has a leap and their marks differ.
-fn put_differences(out: &mut [u8], at: usize, lines: bool, a: Schedule, b: Schedule) -> usize
-    requires { ⌜ (wellFormed a ≡ true) × (wellFormed b ≡ true) ⌝ }
-    ensures { λ r. ⌜ PutsUpTo 5120 (now (out .entry)) (now (out .exit)) at r (differences (between lines) a b) ⌝ }
+fn put_differences(out: &mut [u8], at: usize, lines: bool, a: &[u32; 514], b: &[u32; 514]) -> usize
+    requires { ⌜ (wellFormed (meant (now a)) ≡ true) × (wellFormed (meant (now b)) ≡ true) ⌝ }
+    ensures { λ r. ⌜ PutsUpTo 5120 (now (out .entry)) (now (out .exit)) at r (differences (between lines) (meant (now (a .entry))) (meant (now (b .entry)))) ⌝ }
 {
+    // The last month that each list knows of.
+    let first = last_known(a);
+    let second = last_known(b);
     let mut next = at;
     let mut i: usize = 0;
     let mut j: usize = 0;
@@ -125,8 +114,8 @@ fn put_differences(out: &mut [u8], at: usize, lines: bool, a: Schedule, b: Sched
             next,
             lines,
             month,
-            mark_from(a, i, month),
-            mark_from(b, j, month),
+            mark_from(a, i, first, month),
+            mark_from(b, j, second, month),
         );
         i = passed(a, i, month);
         j = passed(b, j, month);
@@ -136,12 +125,12 @@ fn put_differences(out: &mut [u8], at: usize, lines: bool, a: Schedule, b: Sched
 }
 
 // Puts `=` and both expiries where they differ.
-fn put_expiries(out: &mut [u8], at: usize, lines: bool, a: Schedule, b: Schedule) -> usize
-    requires { ⌜ (wellFormed a ≡ true) × (wellFormed b ≡ true) ⌝ }
-    ensures { λ r. ⌜ PutsUpTo 17 (now (out .entry)) (now (out .exit)) at r (expiryBytes (between lines) a b) ⌝ }
+fn put_expiries(out: &mut [u8], at: usize, lines: bool, a: &[u32; 514], b: &[u32; 514]) -> usize
+    requires { ⌜ (wellFormed (meant (now a)) ≡ true) × (wellFormed (meant (now b)) ≡ true) ⌝ }
+    ensures { λ r. ⌜ PutsUpTo 17 (now (out .entry)) (now (out .exit)) at r (expiryBytes (between lines) (meant (now (a .entry))) (meant (now (b .entry)))) ⌝ }
 {
-    let first = a.expiry;
-    let second = b.expiry;
+    let first = schedule::expiry_of(a);
+    let second = schedule::expiry_of(b);
     if first == second {
         return at;
     }
@@ -169,9 +158,9 @@ fn put_relation(out: &mut [u8], at: usize, over: bool, under: bool) -> usize
 }
 
 // Puts the comparison of two lists, LF between its lines or `; `.
-fn put_comparison(out: &mut [u8], at: usize, lines: bool, a: Schedule, b: Schedule) -> usize
-    requires { ⌜ (wellFormed a ≡ true) × (wellFormed b ≡ true) ⌝ }
-    ensures { λ r. ⌜ PutsUpTo 5147 (now (out .entry)) (now (out .exit)) at r (comparison lines a b) ⌝ }
+fn put_comparison(out: &mut [u8], at: usize, lines: bool, a: &[u32; 514], b: &[u32; 514]) -> usize
+    requires { ⌜ (wellFormed (meant (now a)) ≡ true) × (wellFormed (meant (now b)) ≡ true) ⌝ }
+    ensures { λ r. ⌜ PutsUpTo 5147 (now (out .entry)) (now (out .exit)) at r (comparison lines (meant (now (a .entry))) (meant (now (b .entry)))) ⌝ }
 {
     let over = schedule::extends(a, b);
     let under = schedule::extends(b, a);
@@ -181,9 +170,9 @@ fn put_comparison(out: &mut [u8], at: usize, lines: bool, a: Schedule, b: Schedu
 }
 
 // Writes the comparison of two lists in LF-ended lines; 7 where the output is too short for it, and then nothing is changed.
-fn write_comparison(a: Schedule, b: Schedule, out: &mut [u8]) -> Writing
-    requires { ⌜ (wellFormed a ≡ true) × (wellFormed b ≡ true) ⌝ }
-    ensures { λ r. ⌜ (r ≡ fitting (compared a b) (length (now (out .entry)))) × (now (out .exit) ≡ fitted (compared a b) (now (out .entry))) ⌝ }
+fn write_comparison(a: &[u32; 514], b: &[u32; 514], out: &mut [u8]) -> Writing
+    requires { ⌜ (wellFormed (meant (now a)) ≡ true) × (wellFormed (meant (now b)) ≡ true) ⌝ }
+    ensures { λ r. ⌜ (r ≡ fitting (compared (meant (now (a .entry))) (meant (now (b .entry)))) (length (now (out .entry)))) × (now (out .exit) ≡ fitted (compared (meant (now (a .entry))) (meant (now (b .entry)))) (now (out .entry))) ⌝ }
 {
     let mut bytes = [0u8; ROOM];
     let end = put_comparison(&mut bytes, 0, true, a, b);
@@ -202,26 +191,24 @@ fn write_comparison(a: Schedule, b: Schedule, out: &mut [u8]) -> Writing
 pub fn compare_text(x: &[u8], y: &[u8], out: &mut [u8]) -> Writing
     ensures { λ r. ⌜ (r ≡ comparing (now (x .entry)) (now (y .entry)) (length (now (out .entry)))) × (now (out .exit) ≡ comparedInto (now (x .entry)) (now (y .entry)) (now (out .entry))) ⌝ }
 {
-    let lists = read_both(x, y);
-    let number = lists.number;
+    let mut a = [0u32; 514];
+    let mut b = [0u32; 514];
+    let number = read_both(x, y, &mut a, &mut b);
     if number != 0 {
         return Writing { number, count: 0 };
     }
-    let a = lists.first;
-    let b = lists.second;
-    write_comparison(a, b, out)
+    write_comparison(&a, &b, out)
 }
 
 // Puts the comparison of two text lists, LF between its lines or `; `; of a refusal the number alone.
 pub fn put_compared(out: &mut [u8], at: usize, lines: bool, x: &[u8], y: &[u8]) -> usize
     ensures { λ r. ⌜ PutsUpTo 5147 (now (out .entry)) (now (out .exit)) at r (comparisonOf lines (now (x .entry)) (now (y .entry))) ⌝ }
 {
-    let lists = read_both(x, y);
-    let number = lists.number;
+    let mut a = [0u32; 514];
+    let mut b = [0u32; 514];
+    let number = read_both(x, y, &mut a, &mut b);
     if number != 0 {
         return put_decimal(out, at, wide(number));
     }
-    let a = lists.first;
-    let b = lists.second;
-    put_comparison(out, at, lines, a, b)
+    put_comparison(out, at, lines, &a, &b)
 }

@@ -1,6 +1,7 @@
--- What only the contracts of private functions say. No promise to a caller rests on reading this file.
+-- What only private functions are held to. No public contract and no promise speaks of these.
 -- Assumes nothing: these are definitions.
-use Prim.Native.Nat.{ℕ, zero, suc, _+_}
+use Prim.Native.Nat.{ℕ, zero, suc, _+_, _-_}
+use mathlib.Core.Path.{_≡_}
 use mathlib.Core.Bool.{Bool, cond}
 use mathlib.Core.List.{List, [], _∷_, _++_}
 use lib.Dec.{eqb}
@@ -8,22 +9,19 @@ use lib.ListN.{drop}
 use Rattle.format.specs.Ascii.{ascii, zeroByte}
 use Rattle.format.specs.Decimal.{decimal}
 use Rattle.format.specs.Lines.{spaceByte, between}
-use Rattle.schedule.specs.declared.Leap.{Leap}
-use Rattle.schedule.specs.declared.Schedule.{Schedule}
-use Rattle.schedule.specs.Schedule.{blankSchedule, leapsOf, lastMonth}
+use Rattle.schedule.specs.Schedule.{Leap, Schedule, lastMonth, monthOf}
+use Rattle.schedule.specs.WordLayout.{meant}
 use Rattle.schedule.specs.Extends.{extends}
 use Rattle.text.specs.Bytes.{signByte, endByte}
-use Rattle.compare.specs.declared.texts.Both.{Both}
+use Rattle.text.specs.Read.{readText}
 use Rattle.compare.specs.Longer.{aboutBoth}
 use Rattle.compare.specs.Compare.{isUnknown, mark, hasLine, relationBy}
 
--- a text is not read: its number, and two blank schedules
-abbrev pub notRead : ℕ → Both
-notRead n = record { number = n; first = blankSchedule; second = blankSchedule }
-
--- what reading two texts gives: the number of the first refusal, or 0 and both lists
-unfoldable pub bothRead : List ℕ → List ℕ → Both
-bothRead x y = aboutBoth x y notRead (λ a b. record { number = 0; first = a; second = b })
+-- two texts were read: the number of the first refusal, or 0 and both lists in words
+pub record BothRead (x y : List ℕ) (number : ℕ) (a b : List ℕ) : Type 0 where
+  pub its-number : number ≡ aboutBoth x y (λ n. n) (λ s t. 0)
+  pub first : number ≡ 0 → meant a ≡ readText x .schedule
+  pub second : number ≡ 0 → meant b ≡ readText y .schedule
 
 -- past the last month
 abbrev pub pastMonths : ℕ
@@ -33,6 +31,10 @@ pastMonths = 2401
 unfoldable pub firstMonth : List Leap → ℕ
 firstMonth [] = pastMonths
 firstMonth (l ∷ ls) = l .month
+
+-- the last month that starts before a list's expiry
+abbrev pub lastKnown : Schedule → ℕ
+lastKnown s = monthOf (s .expiry - 1)
 
 -- the mark of a leap at a month, and of the first leap
 abbrev pub markOfLeap : Leap → ℕ → ℕ
@@ -44,7 +46,7 @@ firstMark (l ∷ ls) m = markOfLeap l m
 
 -- the leaps from a place on
 abbrev pub leapsFrom : Schedule → ℕ → List Leap
-leapsFrom s i = drop i (leapsOf s)
+leapsFrom s i = drop i (s .leaps)
 
 -- the mark of a list whose leaps up to place i lie before the month
 abbrev pub markFrom : Schedule → ℕ → ℕ → ℕ
