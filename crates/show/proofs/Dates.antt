@@ -1,15 +1,15 @@
 -- The date that is printed for an MJD is that of the calendar. Assumes nothing.
 use mathlib.Core.Path.{_≡_, ap, _∙_}
 use mathlib.Core.Bool.{true}
-use mathlib.Core.List.{[], _∷_, _++_}
+use mathlib.Core.List.{List, [], _∷_, _++_}
 use Prim.Native.Nat.{ℕ, _+_, _-_, _/_, _%_, _<_}
 use native.Mathlib.Omega.{arith}
 use Rattle.format.specs.Ascii.{ascii}
 use Rattle.format.specs.Decimal.{digitsIn, decimal, pair, withSign}
 use Rattle.format.specs.Lines.{between}
-use Rattle.calendar.specs.Calendar.{InMonth, daysInMonth, monthStart, monthOf}
+use Rattle.calendar.specs.Calendar.{InMonth, firstDay, daysInMonth, monthStart, monthOf}
 use Rattle.calendar.proofs.Laws.{start-next, start-last, late-month, is-month}
-use Rattle.schedule.specs.Schedule.{Schedule, wellFormed}
+use Rattle.schedule.specs.Schedule.{Leap, Schedule, wellFormed}
 use Rattle.clock.specs.Days.{dtai}
 use Rattle.show.specs.Show.{date, dateOf, stretch, stretches, shown}
 
@@ -34,8 +34,14 @@ ten : (s : Schedule) → s .leaps ≡ [] → withSign (dtai s 41_317) ≡ ascii 
 unfolding dtai decimal digitsIn
 ten s e = rw e
 
+alone : (s : Schedule) (ls : List Leap) → ls ≡ [] → (sign : List ℕ) → withSign (dtai s 41_317) ≡ sign
+    → stretches true s firstDay ls ++ (between true ++ (dateOf (s .expiry) ++ ascii " unknown"))
+    ≡ dateOf 41_317 ++ (32 ∷ dateOf (s .expiry - 1) ++ (32 ∷ sign)) ++ (10 ∷ dateOf (s .expiry) ++ ascii " unknown")
+unfolding stretches stretch between
+alone s ls e sign f = rw (e, ← f)
+
 -- a list without leaps is shown as its one stretch, from 1972-01-01 to the day before its expiry, and its expiry
 pub shown-alone : (s : Schedule) → wellFormed s ≡ true → s .leaps ≡ []
     → shown true s ≡ dateOf 41_317 ++ (32 ∷ dateOf (s .expiry - 1) ++ (32 ∷ ascii "+10")) ++ (10 ∷ dateOf (s .expiry) ++ ascii " unknown")
-unfolding shown stretches stretch between
-shown-alone s w e = rw (w, e, ten s e)
+unfolding shown
+shown-alone s w e = rw w (alone s (s .leaps) e (ascii "+10") (ten s e))

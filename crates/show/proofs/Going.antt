@@ -15,7 +15,7 @@ use Rattle.format.specs.Lines.{between}
 use Rattle.schedule.specs.Schedule.{Schedule, noLeap, gapsFit, wellFormed}
 use Rattle.schedule.proofs.Gaps.{fits-lt, first, later, before-end, parts}
 use Rattle.schedule.proofs.WordLayout.{within}
-use Rattle.schedule.proofs.Formed.{in-use, used}
+use Rattle.schedule.proofs.Formed.{in-use}
 use Rattle.show.specs.Show.{stretch, stretches}
 use Rattle.show.specs.Private.{shownFrom}
 

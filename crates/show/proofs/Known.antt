@@ -17,11 +17,11 @@ use Rattle.clock.specs.Days.{firstDtai, dtai}
 use Rattle.clock.specs.Known.{lastDay}
 use Rattle.clock.specs.Question.{dtaiOn, given}
 use Rattle.clock.specs.Answers.{dtaiAnswer}
-use Rattle.clock.specs.Private.{tally}
+use Rattle.clock.specs.Tally.{tally}
 use Rattle.clock.proofs.Tallied.{dtai-tallied}
 use Rattle.clock.proofs.Checks.{pass}
 use Rattle.clock.proofs.Tai.{tally-few}
-use Rattle.clock.proofs.Signed.{minus-kept}
+use Rattle.questions.proofs.Signed.{minus-kept}
 
 module _ (s : Schedule) (w : wellFormed s ≡ true) where
   -- what the clock answers on that day

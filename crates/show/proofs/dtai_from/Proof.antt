@@ -3,6 +3,7 @@ use borrow.Author.Needs.{needs}
 use native.Mathlib.Omega.{arith}
 use mathlib.Core.Path.{_≡_, sym, ap, _∙_}
 use Prim.Native.Nat.{ℕ}
+use Rattle.schedule.specs.WordLayout.{meant}
 use Rattle.clock.specs.Answers.{dtaiValue}
 use Rattle.show.proofs.Known.{dtai-given, dtai-kept}
 use Rattle.show.proofs.dtai_from.Statement.{statement}

@@ -2,6 +2,7 @@
 use borrow.Author.Needs.{needs}
 use native.Mathlib.Omega.{arith}
 use mathlib.Core.Path.{refl}
+use Rattle.schedule.specs.WordLayout.{meant}
 use Rattle.schedule.proofs.Gaps.{parts}
 use Rattle.format.proofs.Putting.{up-to, a-byte}
 use Rattle.show.specs.Show.{stretch}
