@@ -8,7 +8,6 @@ use native.Mathlib.Decide.{decLe}
 use native.Mathlib.Nat.{add-zero, zero-add, suc-add}
 use native.Mathlib.Omega.{arith}
 use lib.Dec.{eqb}
-use lib.ListN.{length}
 use Rattle.format.specs.Ascii.{zeroByte}
 use Rattle.format.specs.Output.{PutsUpTo}
 use Rattle.format.proofs.LeftUpTo.{LeftUpTo, none-yet, more, all}

@@ -16,7 +16,7 @@ use Rattle.schedule.proofs.Extension.{means, failed}
 use Rattle.format.specs.Ascii.{ascii}
 use Rattle.format.specs.Decimal.{decimal}
 use Rattle.text.specs.Read.{readText}
-use Rattle.text.proofs.Sound.{read-formed, accepted-well-formed}
+use Rattle.text.proofs.Sound.{accepted-well-formed}
 use Rattle.text.proofs.Spelling.{no-other}
 use Rattle.compare.specs.declared.longer.Chosen.{Chosen}
 use Rattle.compare.specs.declared.longer.Chosen.the-variants.{First, Second, Refused}

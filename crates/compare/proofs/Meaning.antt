@@ -12,7 +12,7 @@ use borrow.Author.Tests.{eqb-true, eq-eqb, ne-eqb}
 use Rattle.format.specs.Ascii.{ascii, zeroByte}
 use Rattle.schedule.specs.declared.Sign.{Sign}
 use Rattle.schedule.specs.declared.Sign.the-variants.{Positive, Negative}
-use Rattle.schedule.specs.Schedule.{Leap, Schedule, monthStart, maxLeaps, gapsFit, wellFormed}
+use Rattle.schedule.specs.Schedule.{Leap, Schedule, monthStart, gapsFit, wellFormed}
 use Rattle.schedule.proofs.WordLayout.{within}
 use Rattle.schedule.specs.Extends.{Extends, extends}
 use Rattle.schedule.proofs.Cases.{by-bool}

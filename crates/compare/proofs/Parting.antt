@@ -12,7 +12,7 @@ use lib.Dec.{eqb}
 use lib.ListN.{length, length-append}
 use borrow.Author.Tests.{eqb-true, eqb-false, eq-eqb, ne-eqb}
 use Rattle.format.specs.Ascii.{ascii, zeroByte}
-use Rattle.schedule.specs.Schedule.{Schedule, maxLeaps, isExpired, wellFormed}
+use Rattle.schedule.specs.Schedule.{Schedule, isExpired, wellFormed}
 use Rattle.schedule.specs.Extends.{Extends}
 use Rattle.schedule.proofs.Cases.{by-bool}
 use Rattle.schedule.proofs.Expired.{not-expired, known-until}

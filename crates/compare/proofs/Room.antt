@@ -7,7 +7,7 @@ use Prim.Native.Nat.{ℕ, zero, suc, _+_, _-_, _*_, _≤_, _<_}
 use native.Mathlib.Nat.{zero-add}
 use native.Mathlib.Omega.{arith}
 use lib.Dec.{eqb, ltb}
-use lib.ListN.{length, length-append, length-take}
+use lib.ListN.{length, length-append}
 use borrow.Author.Tests.{eqb-true, ne-eqb, ltb-true, lt-ltb}
 use Rattle.format.specs.Ascii.{zeroByte}
 use Rattle.format.specs.Decimal.{decimal}

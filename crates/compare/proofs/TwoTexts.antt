@@ -11,7 +11,7 @@ use Rattle.schedule.specs.Schedule.{Schedule, wellFormed}
 use Rattle.schedule.proofs.Cases.{by-bool}
 use Rattle.schedule.specs.WordLayout.{meant}
 use Rattle.schedule.specs.Answers.{HandsReading}
-use Rattle.schedule.proofs.ByReading.{read-refused, read-taken}
+use Rattle.schedule.proofs.ByReading.{by-refused, by-taken}
 use Rattle.schedule.proofs.Meant.{hands-meant}
 use Rattle.text.specs.Read.{readText}
 use Rattle.text.proofs.Sound.{read-formed, accepted-well-formed}
@@ -29,14 +29,14 @@ Taken x = readText x .number ≡ 0
 module _ {A : Type 0} (x y : List ℕ) (refuse : ℕ → A) (f : Schedule → Schedule → A) where
   -- the first list's refusal, then the second's, the number alone
   pub first-refused : readText x .number ≢ 0 → aboutBoth x y refuse f ≡ refuse (readText x .number)
-  first-refused n = read-refused _ _ refl n
+  first-refused n = by-refused (readText x) _ _ n
 
   pub second-refused : Taken x → readText y .number ≢ 0 → aboutBoth x y refuse f ≡ refuse (readText y .number)
-  second-refused t n = read-taken _ _ refl t ∙ read-refused _ _ refl n
+  second-refused t n = by-taken (readText x) _ _ t ∙ by-refused (readText y) _ _ n
 
   -- or an answer about both
   pub both-taken : Taken x → Taken y → aboutBoth x y refuse f ≡ f (readAs x) (readAs y)
-  both-taken t u = read-taken _ _ refl t ∙ read-taken _ _ refl u
+  both-taken t u = by-taken (readText x) _ _ t ∙ by-taken (readText y) _ _ u
 
 -- one of two texts is refused, or both are read
 pub by-texts : {A : Type 0} (x y : List ℕ) → (readText x .number ≢ 0 → A) → (Taken x → readText y .number ≢ 0 → A) → (Taken x → Taken y → A) → A

@@ -12,6 +12,16 @@ use Rattle.schedule.proofs.Sound.{Formed}
 use Rattle.schedule.proofs.Rounded.{first-leaves-gap}
 use Rattle.schedule.proofs.Meant.{hands-meant}
 
+-- by the reading itself
+module _ {A : Type 0} (r : Reading) (refuse : ℕ → ℕ → A) (f : Schedule → A) where
+  pub by-refused : (r .number ≡ 0 → ⊥) → byReading r refuse f ≡ refuse (r .number) (r .place)
+  unfolding byReading
+  by-refused h = simp (ne-eqb (r .number) 0 h)
+
+  pub by-taken : r .number ≡ 0 → byReading r refuse f ≡ f (r .schedule)
+  unfolding byReading
+  by-taken h = simp (eq-eqb (r .number) 0 h)
+
 module _ {r : Reading} (good : Formed r) {n p : ℕ} {words : List ℕ} (h : HandsReading r n words p) where
   -- a list that is read is well formed, and every writer takes it
   pub read-well : n ≡ 0 → wellFormed (meant words) ≡ true
@@ -23,10 +33,8 @@ module _ {r : Reading} (good : Formed r) {n p : ℕ} {words : List ℕ} (h : Han
   module _ {A : Type 0} (refuse : ℕ → ℕ → A) (f : Schedule → A) where
     -- the refusal of one that is not read
     pub read-refused : (n ≡ 0 → ⊥) → byReading r refuse f ≡ refuse n p
-    unfolding byReading
-    read-refused unread = rw (h .its-number, h .its-place) (simp (ne-eqb (r .number) 0 (λ z. unread (h .its-number ∙ z))))
+    read-refused unread = rw (h .its-number, h .its-place) (by-refused r refuse f (λ z. unread (h .its-number ∙ z)))
 
     -- the answer about one that is
     pub read-taken : n ≡ 0 → byReading r refuse f ≡ f (meant words)
-    unfolding byReading
-    read-taken z = simp (eq-eqb (r .number) 0 (sym (h .its-number) ∙ z)) (ap f (sym (hands-meant r good n p words h)))
+    read-taken z = by-taken r refuse f (sym (h .its-number) ∙ z) ∙ ap f (sym (hands-meant r good n p words h))

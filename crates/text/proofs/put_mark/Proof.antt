@@ -1,12 +1,11 @@
 -- `text::put_mark` meets its contract: the digits, then the mark. Assumes nothing.
-use mathlib.Core.Path.{_≡_, refl, sym, ap, _∙_}
+use mathlib.Core.Path.{sym, ap}
 use mathlib.Core.List.{[], _∷_}
-use Prim.Native.Nat.{_+_, _≤_}
 use native.Mathlib.Omega.{arith}
 use borrow.Author.Needs.{needs}
 use lib.ListN.{length}
 use lib.Seq.{length-sets}
-use Rattle.text.specs.Write.{digits, marked}
+use Rattle.text.specs.Write.{digits}
 use Rattle.schedule.proofs.Stores.{sets-append}
 use Rattle.text.proofs.Steps.{marked-length}
 use Rattle.text.proofs.put_mark.Statement.{statement}

@@ -1,18 +1,25 @@
 -- `text::write_text` meets its contract: the number with which every writer refuses, or 7, or the list. Assumes nothing.
-use mathlib.Core.Path.{sym, ap, _∙_}
+use mathlib.Core.Path.{_≡_, sym, ap, _∙_}
+use mathlib.Core.List.{List}
+use Prim.Native.Nat.{ℕ}
 use native.Mathlib.Omega.{arith}
 use borrow.Author.Needs.{needs}
-use Rattle.schedule.specs.Schedule.{monthOf}
+use Rattle.schedule.specs.Schedule.{Schedule, monthOf}
+use Rattle.schedule.specs.Answers.{unwritable, unwritten}
 use Rattle.schedule.proofs.Answers as answers
 use Rattle.schedule.proofs.Meant.{expiry-is}
 use Rattle.text.proofs.write_text.Statement.{statement}
 use Rattle.text.proofs.write_text.Tie as tie
 
+-- a number that is not 0 is the refusal
+refuses : (s : Schedule) (bytes out : List ℕ) {n : ℕ} → n ≡ unwritable s → (n ≡ 0 → ⊥) → answers.Answer s bytes out (unwritten n) out
+refuses s bytes out e h = rw e (answers.refused s bytes out (λ z. h (e ∙ z)))
+
 returns : tie.Need-returns
 returns c =
     let unwritable = c .before .unwritable in
     let if1 = c .if1 in
-    rw (unwritable .ensures) (answers.refused _ _ _ (λ z. if1 .taken (unwritable .ensures ∙ z)))
+    refuses _ _ _ (unwritable .ensures) (if1 .taken)
 
 text-len-requires : tie.Need-text-len-requires
 text-len-requires c κs =
