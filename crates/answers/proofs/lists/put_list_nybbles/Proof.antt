@@ -2,10 +2,9 @@
 use borrow.Author.Needs.{needs}
 use native.Mathlib.Omega.{arith}
 use Rattle.format.proofs.Putting.{few}
-use Rattle.text.proofs.Sound.{accepted-well-formed, accepted-leaves-gap}
-use Rattle.answers.specs.Lists.{listOf}
+use Rattle.text.proofs.Sound.{read-formed}
 use Rattle.format.specs.Refusal.{refusalAt}
-use Rattle.schedule.proofs.ByReading.{read-refused, read-taken}
+use Rattle.schedule.proofs.ByReading.{read-well, read-leaves-gap, read-refused, read-taken}
 use Rattle.answers.proofs.lists.put_list_nybbles.Statement.{statement}
 use Rattle.answers.proofs.lists.put_list_nybbles.Tie as tie
 
@@ -14,23 +13,21 @@ returns c =
     let put-refusal-at = c .before .before .put-refusal-at in
     let read-list = c .before .before .before .before .before .read-list in
     let if1 = c .before .before .before .before .if1 in
-    few (put-refusal-at .ensures) (read-refused refusalAt _ (read-list .ensures) (if1 .taken)) (omega arith)
+    few (put-refusal-at .ensures) (read-refused (read-formed _) (read-list .ensures) refusalAt _ (if1 .taken)) (omega arith)
 
 -- what is accepted is well formed
 put-nybbles-requires : tie.Need-put-nybbles-requires
 put-nybbles-requires c κs =
     let read-list = c .before .before .before .read-list in
-    let args = c .before .before .before .before .before .before .args in
     let if1 = c .before .before .if1 in
-    let taken = rw (read-list .ensures) at (if1 .left) in
-    rw (read-list .ensures) (accepted-well-formed (listOf (args .list .now)) taken, accepted-leaves-gap (listOf (args .list .now)) taken)
+    (read-well (read-formed _) (read-list .ensures) (if1 .left), read-leaves-gap (read-formed _) (read-list .ensures) (if1 .left))
 
 returns-2 : tie.Need-returns-2
 returns-2 c =
     let put-nybbles = c .before .before .put-nybbles in
     let read-list = c .before .before .before .before .before .before .read-list in
     let if1 = c .before .before .before .before .before .if1 in
-    few (put-nybbles .ensures) (read-taken refusalAt _ (read-list .ensures) (if1 .left)) (omega arith)
+    few (put-nybbles .ensures) (read-taken (read-formed _) (read-list .ensures) refusalAt _ (if1 .left)) (omega arith)
 
 pub put-list-nybbles-spec : {M : Type 1} → statement M
 put-list-nybbles-spec =

@@ -8,6 +8,7 @@ use lib.ListN.{replicate}
 use Rattle.format.specs.Hex.{hex}
 use Rattle.format.proofs.Putting.{text-put}
 use Rattle.format.proofs.Halves.{hex-length}
+use Rattle.schedule.specs.WordLayout.{meant}
 use Rattle.nybbles.specs.Write.{nybblesOf}
 use Rattle.nybbles.proofs.Room.{at-most}
 use Rattle.answers.proofs.Held.{inside, holds, all-held}
@@ -23,7 +24,7 @@ array-share-prefix-bytes c =
     let args = c .before .before .before .before .before .args in
     let pre = c .before .before .before .before .before .pre in
     let write-nybbles = c .before .before .write-nybbles in
-    let s = args .s in
+    let s = meant (args .words .now) in
     inside s (nybblesOf s) lent (pre .0) (pre .1) (at-most s (pre .0) (pre .1)) (write-nybbles .ensures .0) (write-nybbles .ensures .1)
 
 slice-aggregate-put-hex : tie.Need-slice-aggregate-put-hex
@@ -31,7 +32,7 @@ slice-aggregate-put-hex c =
     let args = c .before .before .before .before .before .before .args in
     let pre = c .before .before .before .before .before .before .pre in
     let write-nybbles = c .before .before .before .write-nybbles in
-    let s = args .s in
+    let s = meant (args .words .now) in
     all-held s (nybblesOf s) lent (pre .0) (pre .1) (at-most s (pre .0) (pre .1)) (write-nybbles .ensures .0) (write-nybbles .ensures .1)
 
 returns : tie.Need-returns
@@ -40,7 +41,7 @@ returns c =
     let pre = c .before .before .before .before .before .before .before .before .before .pre in
     let write-nybbles = c .before .before .before .before .before .before .write-nybbles in
     let put-hex = c .before .before .put-hex in
-    let s = args .s in
+    let s = meant (args .words .now) in
     let room = at-most s (pre .0) (pre .1) in
     let e = holds s (nybblesOf s) lent (pre .0) (pre .1) room (write-nybbles .ensures .0) (write-nybbles .ensures .1) in
     text-put (put-hex .ensures) (ap hex (sym e)) (rw e (omega (arith, hex-length (nybblesOf s))))

@@ -7,7 +7,7 @@ use Rattle.answers.proofs.lists.read_list.Tie as tie
 returns : tie.Need-returns
 unfolding listOf
 returns c =
-    let list-of = c .before .list-of in
+    let list-of = c .before .before .before .list-of in
     let read-text = c .read-text in
     rw (← list-of .ensures) (read-text .ensures)
 

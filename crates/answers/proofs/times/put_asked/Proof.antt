@@ -2,6 +2,7 @@
 use borrow.Author.Needs.{needs}
 use native.Mathlib.Omega.{arith}
 use Rattle.format.proofs.Putting.{few}
+use Rattle.text.proofs.Sound.{read-formed}
 use Rattle.answers.specs.Times.{askedUnder}
 use Rattle.format.specs.Refusal.{refusalAt}
 use Rattle.schedule.proofs.ByReading.{read-refused, read-taken}
@@ -14,7 +15,7 @@ returns c =
     let put-refusal-at = c .before .before .put-refusal-at in
     let read-list = c .before .before .before .before .before .read-list in
     let if1 = c .before .before .before .before .if1 in
-    few (put-refusal-at .ensures) (read-refused refusalAt _ (read-list .ensures) (if1 .taken)) (omega arith)
+    few (put-refusal-at .ensures) (read-refused (read-formed _) (read-list .ensures) refusalAt _ (if1 .taken)) (omega arith)
 
 returns-2 : tie.Need-returns-2
 unfolding askedUnder
@@ -22,7 +23,7 @@ returns-2 c =
     let put-asked-of = c .before .before .put-asked-of in
     let read-list = c .before .before .before .before .before .before .read-list in
     let if1 = c .before .before .before .before .before .if1 in
-    few (put-asked-of .ensures) (read-taken refusalAt _ (read-list .ensures) (if1 .left)) (omega arith)
+    few (put-asked-of .ensures) (read-taken (read-formed _) (read-list .ensures) refusalAt _ (if1 .left)) (omega arith)
 
 pub put-asked-spec : {M : Type 1} → statement M
 put-asked-spec =
