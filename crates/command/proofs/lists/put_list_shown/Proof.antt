@@ -1,8 +1,9 @@
 -- `command::lists::put_list_shown` meets its contract: the list is refused, or it is shown. Assumes nothing.
 use borrow.Author.Needs.{needs}
 use native.Mathlib.Omega.{arith}
-use Rattle.format.proofs.Putting.{few}
 use Rattle.format.specs.Refusal.{refusalAt}
+use Rattle.format.proofs.Putting.{few}
+use Rattle.text.proofs.Sound.{read-formed}
 use Rattle.schedule.proofs.ByReading.{read-refused, read-taken}
 use Rattle.command.proofs.lists.put_list_shown.Statement.{statement}
 use Rattle.command.proofs.lists.put_list_shown.Tie as tie
@@ -12,14 +13,14 @@ returns c =
     let put-refusal-at = c .before .before .put-refusal-at in
     let read-list = c .before .before .before .before .before .read-list in
     let if1 = c .before .before .before .before .if1 in
-    few (put-refusal-at .ensures) (read-refused refusalAt _ (read-list .ensures) (if1 .taken)) (omega arith)
+    few (put-refusal-at .ensures) (read-refused (read-formed _) (read-list .ensures) refusalAt _ (if1 .taken)) (omega arith)
 
 returns-2 : tie.Need-returns-2
 returns-2 c =
     let put-shown = c .before .before .put-shown in
     let read-list = c .before .before .before .before .before .before .read-list in
     let if1 = c .before .before .before .before .before .if1 in
-    few (put-shown .ensures) (read-taken refusalAt _ (read-list .ensures) (if1 .left)) (omega arith)
+    few (put-shown .ensures) (read-taken (read-formed _) (read-list .ensures) refusalAt _ (if1 .left)) (omega arith)
 
 pub put-list-shown-spec : {M : Type 1} → statement M
 put-list-shown-spec =

@@ -4,6 +4,7 @@ use mathlib.Core.Path.{sym}
 use mathlib.Core.List.{List}
 use Prim.Native.Nat.{ℕ}
 use lib.ListN.{replicate}
+use Rattle.schedule.specs.WordLayout.{meant}
 use Rattle.format.proofs.Putting.{text-put}
 use Rattle.text.specs.Write.{textOf}
 use Rattle.text.proofs.Room.{at-most}
@@ -20,14 +21,16 @@ array-share-prefix-bytes c =
     let args = c .before .before .before .before .before .args in
     let pre = c .before .before .before .before .before .pre in
     let write-text = c .before .before .write-text in
-    let s = args .s in inside s (textOf s) lent (pre .0) (pre .1) (at-most s (pre .0)) (write-text .ensures .0) (write-text .ensures .1)
+    let s = meant (args .words .now) in
+    inside s (textOf s) lent (pre .0) (pre .1) (at-most s (pre .0)) (write-text .ensures .0) (write-text .ensures .1)
 
 slice-aggregate-put-all : tie.Need-slice-aggregate-put-all
 slice-aggregate-put-all c =
     let args = c .before .before .before .before .before .before .args in
     let pre = c .before .before .before .before .before .before .pre in
     let write-text = c .before .before .before .write-text in
-    let s = args .s in all-held s (textOf s) lent (pre .0) (pre .1) (at-most s (pre .0)) (write-text .ensures .0) (write-text .ensures .1)
+    let s = meant (args .words .now) in
+    all-held s (textOf s) lent (pre .0) (pre .1) (at-most s (pre .0)) (write-text .ensures .0) (write-text .ensures .1)
 
 returns : tie.Need-returns
 returns c =
@@ -35,7 +38,8 @@ returns c =
     let pre = c .before .before .before .before .before .before .before .before .before .pre in
     let write-text = c .before .before .before .before .before .before .write-text in
     let put-all = c .before .before .put-all in
-    let s = args .s in let e = holds s (textOf s) lent (pre .0) (pre .1) (at-most s (pre .0)) (write-text .ensures .0) (write-text .ensures .1) in text-put (put-all .ensures) (sym e) (rw e (at-most s (pre .0)))
+    let s = meant (args .words .now) in
+    let e = holds s (textOf s) lent (pre .0) (pre .1) (at-most s (pre .0)) (write-text .ensures .0) (write-text .ensures .1) in text-put (put-all .ensures) (sym e) (rw e (at-most s (pre .0)))
 
 pub put-text-spec : {M : Type 1} → statement M
 put-text-spec =

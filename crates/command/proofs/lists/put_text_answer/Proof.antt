@@ -3,11 +3,10 @@ use borrow.Author.Needs.{needs}
 use borrow.Author.Tests.{not-true, not-false}
 use native.Mathlib.Omega.{arith}
 use Rattle.format.proofs.Putting.{few}
-use Rattle.format.specs.Hex.{unhex}
-use Rattle.nybbles.proofs.Sound.{accepted-well-formed, accepted-leaves-gap}
+use Rattle.nybbles.proofs.Sound.{read-formed}
 use Rattle.command.specs.Answer.{textAnswer}
 use Rattle.format.specs.Refusal.{refusalAt}
-use Rattle.schedule.proofs.ByReading.{read-refused, read-taken}
+use Rattle.schedule.proofs.ByReading.{read-well, read-leaves-gap, read-refused, read-taken}
 use Rattle.command.proofs.lists.put_text_answer.Statement.{statement}
 use Rattle.command.proofs.lists.put_text_answer.Tie as tie
 
@@ -23,29 +22,27 @@ returns-2 : tie.Need-returns-2
 unfolding textAnswer
 returns-2 c =
     let put-refusal-at = c .before .before .put-refusal-at in
-    let is-hex = c .before .before .before .before .before .before .before .is-hex in
-    let if1 = c .before .before .before .before .before .before .if1 in
+    let is-hex = c .before .before .before .before .before .before .before .before .before .is-hex in
+    let if1 = c .before .before .before .before .before .before .before .before .if1 in
     let read-hex = c .before .before .before .before .before .read-hex in
     let if2 = c .before .before .before .before .if2 in
-    few (put-refusal-at .ensures) (simp (← is-hex .ensures, not-false (is-hex .result) (if1 .left)) (read-refused refusalAt _ (read-hex .ensures) (if2 .taken))) (omega arith)
+    few (put-refusal-at .ensures) (simp (← is-hex .ensures, not-false (is-hex .result) (if1 .left)) (read-refused (read-formed _) (read-hex .ensures) refusalAt _ (if2 .taken))) (omega arith)
 
 put-text-requires : tie.Need-put-text-requires
 put-text-requires c κs =
     let read-hex = c .before .before .before .read-hex in
-    let args = c .before .before .before .before .before .before .before .before .args in
     let if2 = c .before .before .if2 in
-    let taken = rw (read-hex .ensures) at (if2 .left) in
-    rw (read-hex .ensures) (accepted-well-formed (unhex (args .field .now)) taken, accepted-leaves-gap (unhex (args .field .now)) taken)
+    (read-well (read-formed _) (read-hex .ensures) (if2 .left), read-leaves-gap (read-formed _) (read-hex .ensures) (if2 .left))
 
 returns-3 : tie.Need-returns-3
 unfolding textAnswer
 returns-3 c =
     let put-text = c .before .before .put-text in
-    let is-hex = c .before .before .before .before .before .before .before .before .is-hex in
-    let if1 = c .before .before .before .before .before .before .before .if1 in
+    let is-hex = c .before .before .before .before .before .before .before .before .before .before .is-hex in
+    let if1 = c .before .before .before .before .before .before .before .before .before .if1 in
     let read-hex = c .before .before .before .before .before .before .read-hex in
     let if2 = c .before .before .before .before .before .if2 in
-    few (put-text .ensures) (simp (← is-hex .ensures, not-false (is-hex .result) (if1 .left)) (read-taken refusalAt _ (read-hex .ensures) (if2 .left))) (omega arith)
+    few (put-text .ensures) (simp (← is-hex .ensures, not-false (is-hex .result) (if1 .left)) (read-taken (read-formed _) (read-hex .ensures) refusalAt _ (if2 .left))) (omega arith)
 
 pub put-text-answer-spec : {M : Type 1} → statement M
 put-text-answer-spec =

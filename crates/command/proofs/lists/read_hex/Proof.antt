@@ -6,7 +6,6 @@ use Prim.Native.Nat.{_≤_}
 use lib.ListN.{length}
 use Rattle.format.specs.Hex.{unhex}
 use Rattle.format.proofs.Putting.{whole, same-long}
-use Rattle.nybbles.specs.Read.{readNybbles}
 use Rattle.command.proofs.Unhexed.{unhex-length}
 use Rattle.command.proofs.lists.read_hex.Statement.{statement}
 use Rattle.command.proofs.lists.read_hex.Tie as tie
@@ -27,11 +26,12 @@ slice-aggregate-read-nybbles c =
 
 returns : tie.Need-returns
 returns c =
-    let put-unhex = c .before .before .before .put-unhex in
-    let pre = c .before .before .before .before .before .before .pre in
-    let args = c .before .before .before .before .before .before .args in
+    let put-unhex = c .before .before .before .before .before .put-unhex in
+    let pre = c .before .before .before .before .before .before .before .before .pre in
+    let args = c .before .before .before .before .before .before .before .before .args in
     let read-nybbles = c .read-nybbles in
-    let e = whole (put-unhex .ensures) (omega (arith, pre, unhex-length (args .field .now))) in read-nybbles .ensures ∙ ap readNybbles (e .1)
+    let e = whole (put-unhex .ensures) (omega (arith, pre, unhex-length (args .field .now))) in
+    rw (← e .1) (read-nybbles .ensures)
 
 pub read-hex-spec : {M : Type 1} → statement M
 read-hex-spec =
