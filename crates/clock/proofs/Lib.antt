@@ -17,5 +17,6 @@ pub mod LaidOut
 pub mod Placed
 pub mod Stretched
 pub mod Preparing
-pub mod Filled
+pub mod Overwriting
+pub mod Answering
 pub mod Signed

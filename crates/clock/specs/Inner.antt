@@ -21,7 +21,6 @@ use Rattle.clock.specs.declared.days.Day.{Day}
 use Rattle.clock.specs.Days.{microsPerDay, count, tally, ending}
 use Rattle.clock.specs.Known.{lastDay, taiCutoff, knownTo}
 use Rattle.clock.specs.Question.{Answer, given, refused, require, Utc}
-use Rattle.clock.specs.Many.{HandsMany, HandsManyUtc}
 use Rattle.refusals.specs.Refusals.{notKnown}
 
 -- how many of the leaps have the sign
@@ -152,10 +151,3 @@ pub record Ready (last : ℕ) (starts ups downs guesses : List ℕ) : Type 0 whe
   pub inside : last < endDay
   pub of : Schedule
   pub prepared : Prepared of last starts ups downs
-
--- the first n questions are answered in their arrays
-abbrev pub Fills : {A : Type 0} → A → (ℕ → Answer A) → ℕ → List ℕ → List A → List ℕ → List A → Type 0
-Fills none answer n numbers values numbers′ values′ = HandsMany none answer n numbers values n numbers′ values′
-
-abbrev pub FillsUtc : (ℕ → Answer Utc) → ℕ → List ℕ → List ℕ → List ℕ → List ℕ → List ℕ → List ℕ → Type 0
-FillsUtc answer n numbers days micros numbers′ days′ micros′ = HandsManyUtc answer n numbers days micros n numbers′ days′ micros′

@@ -1,4 +1,4 @@
--- The clock's definitions, in the order of the paper; Inner has what only private functions are held to.
+-- The clock's definitions, in the order of the paper; Inner and ManyPrivate have what only private functions are held to.
 pub mod Days
 pub mod Smoothed
 pub mod Document002
@@ -8,4 +8,5 @@ pub mod Taken
 pub mod Lists
 pub mod Answers
 pub mod Many
+pub mod ManyPrivate
 pub mod Inner

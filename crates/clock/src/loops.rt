@@ -1,18 +1,19 @@
 // The loops of the calls for many: under a well-formed list each instant is answered as a single question would be, and under another each is
 // refused.
+ghost use mathlib.Core.List.{map, zipWith};
 ghost use mathlib.Core.Path.{_≡_};
 ghost use mathlib.Core.Bool.{true};
 ghost use Prim.Native.Nat.{_≤_};
 ghost use lib.IntN.{pos};
-ghost use lib.ListN.{length};
+ghost use lib.ListN.{length, replicate};
 ghost use Rattle.schedule.specs.declared.Schedule.{Schedule};
 ghost use Rattle.schedule.specs.Schedule.{wellFormed};
 ghost use Rattle.schedule.specs.WordLayout.{meant};
 ghost use Rattle.clock.specs.Question.{dtaiOn, utcToTai, taiToUtc, utcToUts, utsToUtc};
 ghost use Rattle.clock.specs.Answers.{HandsValue};
 ghost use Rattle.refusals.specs.Refusals.{notWellFormed};
-ghost use Rattle.clock.specs.Many.{filled, answerAt, answersAt};
-ghost use Rattle.clock.specs.Inner.{Prepared, Ready, Fills, FillsUtc};
+ghost use Rattle.clock.specs.Inner.{Prepared, Ready};
+ghost use Rattle.clock.specs.ManyPrivate.{Overwritten, Fills, FillsUtc};
 use crate::answers::dtai_number;
 use crate::answers::dtai_value;
 use crate::answers::micros_number;
@@ -125,7 +126,7 @@ fn reply_micros(
 // The first n numbers, of a list that is not well formed.
 pub(crate) fn refuse(numbers: &mut [u8], n: usize)
     requires { ⌜ n ≤ length (now numbers) ⌝ }
-    ensures { λ _. ⌜ now (numbers .exit) ≡ filled (λ i. notWellFormed) n (now (numbers .entry)) ⌝ }
+    ensures { λ _. ⌜ Overwritten (replicate n notWellFormed) (now (numbers .entry)) (now (numbers .exit)) ⌝ }
 {
     let mut i: usize = 0;
     while i < n {
@@ -137,7 +138,7 @@ pub(crate) fn refuse(numbers: &mut [u8], n: usize)
 // The first n values, all refused.
 pub(crate) fn clear(values: &mut [u64], n: usize)
     requires { ⌜ n ≤ length (now values) ⌝ }
-    ensures { λ _. ⌜ now (values .exit) ≡ filled (λ i. 0) n (now (values .entry)) ⌝ }
+    ensures { λ _. ⌜ Overwritten (replicate n 0) (now (values .entry)) (now (values .exit)) ⌝ }
 {
     let mut i: usize = 0;
     while i < n {
@@ -149,7 +150,7 @@ pub(crate) fn clear(values: &mut [u64], n: usize)
 // The same for values of DTAI.
 pub(crate) fn clear_dtai(values: &mut [i32], n: usize)
     requires { ⌜ n ≤ length (now values) ⌝ }
-    ensures { λ _. ⌜ now (values .exit) ≡ filled (λ i. pos 0) n (now (values .entry)) ⌝ }
+    ensures { λ _. ⌜ Overwritten (replicate n (pos 0)) (now (values .entry)) (now (values .exit)) ⌝ }
 {
     let mut i: usize = 0;
     while i < n {
@@ -167,7 +168,7 @@ pub(crate) fn answer_dtai(
     n: usize,
 )
     requires { ⌜ (wellFormed (meant (now words)) ≡ true) × (n ≤ length (now days)) × (n ≤ length (now numbers)) × (n ≤ length (now dtais)) ⌝ }
-    ensures { λ _. ⌜ Fills (pos 0) (answerAt (dtaiOn (meant (now (words .entry)))) (now (days .entry))) n (now (numbers .entry)) (now (dtais .entry)) (now (numbers .exit)) (now (dtais .exit)) ⌝ }
+    ensures { λ _. ⌜ Fills (pos 0) (map (dtaiOn (meant (now (words .entry)))) (now (days .entry))) n (now (numbers .entry)) (now (dtais .entry)) (now (numbers .exit)) (now (dtais .exit)) ⌝ }
 {
     let last = day_before(words[513]);
     let starts = starts_of(words);
@@ -194,7 +195,7 @@ pub(crate) fn answer_tai(
     n: usize,
 )
     requires { ⌜ (wellFormed (meant (now words)) ≡ true) × (n ≤ length (now days)) × (n ≤ length (now micros)) × (n ≤ length (now numbers)) × (n ≤ length (now tais)) ⌝ }
-    ensures { λ _. ⌜ Fills 0 (answersAt (utcToTai (meant (now (words .entry)))) (now (days .entry)) (now (micros .entry))) n (now (numbers .entry)) (now (tais .entry)) (now (numbers .exit)) (now (tais .exit)) ⌝ }
+    ensures { λ _. ⌜ Fills 0 (zipWith (utcToTai (meant (now (words .entry)))) (now (days .entry)) (now (micros .entry))) n (now (numbers .entry)) (now (tais .entry)) (now (numbers .exit)) (now (tais .exit)) ⌝ }
 {
     let last = day_before(words[513]);
     let starts = starts_of(words);
@@ -220,7 +221,7 @@ pub(crate) fn answer_uts(
     n: usize,
 )
     requires { ⌜ (wellFormed (meant (now words)) ≡ true) × (n ≤ length (now days)) × (n ≤ length (now micros)) × (n ≤ length (now numbers)) × (n ≤ length (now nanos)) ⌝ }
-    ensures { λ _. ⌜ Fills 0 (answersAt (utcToUts (meant (now (words .entry)))) (now (days .entry)) (now (micros .entry))) n (now (numbers .entry)) (now (nanos .entry)) (now (numbers .exit)) (now (nanos .exit)) ⌝ }
+    ensures { λ _. ⌜ Fills 0 (zipWith (utcToUts (meant (now (words .entry)))) (now (days .entry)) (now (micros .entry))) n (now (numbers .entry)) (now (nanos .entry)) (now (numbers .exit)) (now (nanos .exit)) ⌝ }
 {
     let last = day_before(words[513]);
     let starts = starts_of(words);
@@ -246,7 +247,7 @@ pub(crate) fn answer_micros(
     n: usize,
 )
     requires { ⌜ (wellFormed (meant (now words)) ≡ true) × (n ≤ length (now days)) × (n ≤ length (now nanos)) × (n ≤ length (now numbers)) × (n ≤ length (now micros)) ⌝ }
-    ensures { λ _. ⌜ Fills 0 (answersAt (utsToUtc (meant (now (words .entry)))) (now (days .entry)) (now (nanos .entry))) n (now (numbers .entry)) (now (micros .entry)) (now (numbers .exit)) (now (micros .exit)) ⌝ }
+    ensures { λ _. ⌜ Fills 0 (zipWith (utsToUtc (meant (now (words .entry)))) (now (days .entry)) (now (nanos .entry))) n (now (numbers .entry)) (now (micros .entry)) (now (numbers .exit)) (now (micros .exit)) ⌝ }
 {
     let last = day_before(words[513]);
     let starts = starts_of(words);
@@ -272,7 +273,7 @@ pub(crate) fn answer_utc(
     n: usize,
 )
     requires { ⌜ (wellFormed (meant (now words)) ≡ true) × (n ≤ length (now tais)) × (n ≤ length (now numbers)) × (n ≤ length (now days)) × (n ≤ length (now micros)) ⌝ }
-    ensures { λ _. ⌜ FillsUtc (answerAt (taiToUtc (meant (now (words .entry)))) (now (tais .entry))) n (now (numbers .entry)) (now (days .entry)) (now (micros .entry)) (now (numbers .exit)) (now (days .exit)) (now (micros .exit)) ⌝ }
+    ensures { λ _. ⌜ FillsUtc (map (taiToUtc (meant (now (words .entry)))) (now (tais .entry))) n (now (numbers .entry)) (now (days .entry)) (now (micros .entry)) (now (numbers .exit)) (now (days .exit)) (now (micros .exit)) ⌝ }
 {
     let last = day_before(words[513]);
     let starts = starts_of(words);
