@@ -20,7 +20,7 @@ use Rattle.clock.specs.ManyPrivate.{Overwritten, Fills, FillsUtc}
 use Rattle.clock.proofs.Preparing.{prepared-list, ready-list}
 use Rattle.clock.proofs.Overwriting.{none-written, one-written, part-written, At, at-one, at-two, zip-length}
 
--- ---- the list, prepared
+-- ---- a list that is prepared for a schedule
 pub record ReadyFor (s : Schedule) (last : ℕ) (starts ups downs guesses : List ℕ) : Type 0 where
   pub ready : Ready last starts ups downs guesses
   pub prepared : Prepared s last starts ups downs
@@ -48,16 +48,21 @@ module _ {A : Type 0} {v : A} {n : ℕ} {old : List A} where
     repeated-all h = let e : i ≡ n = omega (arith, p .place) in rw e at (p .repeated)
 
 -- ---- a loop that answers the first n questions, at question i
+
+-- so many elements of 8 bytes fit the memory
+abbrev pub Few : ℕ → Type 0
+Few n = n * 8 < 9_223_372_036_854_775_808
+
 pub record Filling {A : Type 0} (none : A) (answers : List (Answer A)) (n : ℕ) (numbers₀ : List ℕ) (values₀ : List A) (numbers : List ℕ) (values : List A) (i : ℕ) : Type 0 where
   pub place : i ≤ n
-  pub few : n * 8 < 9_223_372_036_854_775_808
+  pub few : Few n
   pub enough : n ≤ length answers
   pub numbers-room : n ≤ length numbers₀
   pub values-room : n ≤ length values₀
   pub fills : Fills none answers i numbers₀ values₀ numbers values
 
 module _ {A : Type 0} {none : A} {answers : List (Answer A)} {n : ℕ} {numbers₀ : List ℕ} {values₀ : List A} where
-  start : n * 8 < 9_223_372_036_854_775_808 → n ≤ length answers → n ≤ length numbers₀ → n ≤ length values₀ → Filling none answers n numbers₀ values₀ numbers₀ values₀ 0
+  start : Few n → n ≤ length answers → n ≤ length numbers₀ → n ≤ length values₀ → Filling none answers n numbers₀ values₀ numbers₀ values₀ 0
   start f h l m =
       record { place = omega arith; few = f; enough = h; numbers-room = l; values-room = m; fills = record { told = none-written numbers₀; valued = none-written values₀ } }
 
@@ -83,7 +88,7 @@ module _ {A : Type 0} {none : A} {answers : List (Answer A)} {n : ℕ} {numbers�
 
 -- about the elements of one array: the first turn and each next one
 module _ {A : Type 0} {none : A} (ask : ℕ → Answer A) (xs : List ℕ) {n : ℕ} {numbers₀ : List ℕ} {values₀ : List A} where
-  pub start-one : length xs * 8 < 9_223_372_036_854_775_808 → {W : Type 0} → W × (n ≤ length xs) × (n ≤ length numbers₀) × (n ≤ length values₀) → Filling none (map ask xs) n numbers₀ values₀ numbers₀ values₀ 0
+  pub start-one : Few (length xs) → {W : Type 0} → W × (n ≤ length xs) × (n ≤ length numbers₀) × (n ≤ length values₀) → Filling none (map ask xs) n numbers₀ values₀ numbers₀ values₀ 0
   start-one f h = start (omega (arith, h .1)) (omega (arith, length-map xs ask, h .1)) (h .2) (h .3)
 
   pub turn-one : {numbers : List ℕ} {values : List A} {i : ℕ} → Filling none (map ask xs) n numbers₀ values₀ numbers values i → i < n → {a : ℕ} {v : A} → HandsValue none (ask (getD xs i 0)) a v
@@ -92,7 +97,7 @@ module _ {A : Type 0} {none : A} (ask : ℕ → Answer A) (xs : List ℕ) {n : �
 
 -- and about those of two
 module _ {A : Type 0} {none : A} (ask : ℕ → ℕ → Answer A) (xs ys : List ℕ) {n : ℕ} {numbers₀ : List ℕ} {values₀ : List A} where
-  pub start-two : length xs * 8 < 9_223_372_036_854_775_808 → {W : Type 0} → W × (n ≤ length xs) × (n ≤ length ys) × (n ≤ length numbers₀) × (n ≤ length values₀) → Filling none (zipWith ask xs ys) n numbers₀ values₀ numbers₀ values₀ 0
+  pub start-two : Few (length xs) → {W : Type 0} → W × (n ≤ length xs) × (n ≤ length ys) × (n ≤ length numbers₀) × (n ≤ length values₀) → Filling none (zipWith ask xs ys) n numbers₀ values₀ numbers₀ values₀ 0
   start-two f h = start (omega (arith, h .1)) (omega (arith, zip-length ask xs ys, h .1, h .2)) (h .3) (h .4)
 
   pub turn-two : {numbers : List ℕ} {values : List A} {i : ℕ} → Filling none (zipWith ask xs ys) n numbers₀ values₀ numbers values i → i < n → {a : ℕ} {v : A} → HandsValue none (ask (getD xs i 0) (getD ys i 0)) a v
@@ -102,7 +107,7 @@ module _ {A : Type 0} {none : A} (ask : ℕ → ℕ → Answer A) (xs ys : List 
 -- the same for TAI to UTC
 pub record FillingUtc (answers : List (Answer Utc)) (n : ℕ) (numbers₀ days₀ micros₀ numbers days micros : List ℕ) (i : ℕ) : Type 0 where
   pub place : i ≤ n
-  pub few : n * 8 < 9_223_372_036_854_775_808
+  pub few : Few n
   pub enough : n ≤ length answers
   pub numbers-room : n ≤ length numbers₀
   pub days-room : n ≤ length days₀
@@ -110,7 +115,7 @@ pub record FillingUtc (answers : List (Answer Utc)) (n : ℕ) (numbers₀ days�
   pub fills : FillsUtc answers i numbers₀ days₀ micros₀ numbers days micros
 
 module _ (ask : ℕ → Answer Utc) (xs : List ℕ) {n : ℕ} {numbers₀ days₀ micros₀ : List ℕ} where
-  pub start-utc : length xs * 8 < 9_223_372_036_854_775_808 → {W : Type 0} → W × (n ≤ length xs) × (n ≤ length numbers₀) × (n ≤ length days₀) × (n ≤ length micros₀) → FillingUtc (map ask xs) n numbers₀ days₀ micros₀ numbers₀ days₀ micros₀ 0
+  pub start-utc : Few (length xs) → {W : Type 0} → W × (n ≤ length xs) × (n ≤ length numbers₀) × (n ≤ length days₀) × (n ≤ length micros₀) → FillingUtc (map ask xs) n numbers₀ days₀ micros₀ numbers₀ days₀ micros₀ 0
   start-utc f h =
       record {
         place = omega arith;

@@ -7,7 +7,7 @@ use native.Mathlib.Nat.{not-suc-le-zero, le-of-suc-le-suc, zero-min, min-zero, s
 use native.Mathlib.Numerals.{add-one}
 use native.Mathlib.Omega.{arith}
 use lib.ListN.{length, getD, take, drop, set, length-append, length-drop, length-take, length-set, length-map, List·getD-append, List·getD-map}
-use lib.Seq.{set-at, take-suc, drop-cons, append-snoc, getD-append-add, getD-drop}
+use lib.Seq.{set-at, take-suc, drop-cons, append-snoc, getD-append-add, getD-drop, getD-take}
 use Rattle.clock.specs.Many.{overwrite}
 use Rattle.clock.specs.ManyPrivate.{Overwritten}
 
@@ -90,3 +90,16 @@ module _ {A : Type 0} (new old : List A) where
   pub overwrite-length : length new ≤ length old → length (overwrite new old) ≡ length old
   unfolding overwrite
   overwrite-length h = omega (arith, length-append new (drop (length new) old), length-drop (length new) old)
+
+other-default : {A : Type 0} (xs : List A) (i : ℕ) (d e : A) → i < length xs → getD xs i d ≡ getD xs i e
+other-default [] i d e h = absurd (not-suc-le-zero h)
+other-default (x ∷ xs) zero d e h = refl
+other-default (x ∷ xs) (suc i) d e h = other-default xs i d e (le-of-suc-le-suc h)
+
+-- so, where the first n answers went into an array, each of its first n elements is that part of the answer to its own question (`each-of-one`, `each-of-two`)
+pub each-answered : {A B : Type 0} (part : A → B) (answers : List A) (n : ℕ) (old : List B) (i : ℕ) (d : B) (e : A) → i < n → n ≤ length answers
+    → getD (overwrite (map part (take n answers)) old) i d ≡ part (getD answers i e)
+each-answered part answers n old i d e h l =
+    let new = map part (take n answers) in
+    let below : i < length (map part (take n answers)) = omega (arith, length-map (take n answers) part, length-take n answers) in
+    each-overwritten new old i d below ∙ (other-default new i d (part e) below ∙ (each-of-one part (take n answers) i e ∙ ap part (getD-take n answers i e h)))

@@ -20,10 +20,9 @@ loop-holds : tie.Need-loop-holds Inv-loop μ-loop
 loop-holds c =
     let lists = c .before .before in
     let last = c .before .before .before .before .before in
-    let start = c .before .before .before .before .before .before .before .before .before .before .before in
-    let args = start .args in (
-      ready-for (args .words .now) (start .pre .0) (last .day-before .ensures) (lists .before .before .starts-of .ensures) (lists .before .tallies-of .ensures) (lists .tallies-of2 .ensures) (c .guesses-of .ensures),
-      start-two (utcToTai (meant (args .words .now))) (args .days .now) (args .micros .now) (start .good .1 .0 .1) (start .pre),
+    let start = c .before .before .before .before .before .before .before .before .before .before .before in (
+      ready-for (start .args .words .now) (start .pre .0) (last .day-before .ensures) (lists .before .before .starts-of .ensures) (lists .before .tallies-of .ensures) (lists .tallies-of2 .ensures) (c .guesses-of .ensures),
+      start-two _ _ _ (start .good .1 .0 .1) (start .pre),
     )
 
 loop-again : tie.Need-loop-again Inv-loop μ-loop

@@ -1,8 +1,6 @@
 -- `clock::many::dtai` meets its contract. Assumes nothing.
-use mathlib.Core.Path.{sym, ap, _∙_}
-use Prim.Native.Nat.{min}
+use mathlib.Core.Path.{sym, _∙_}
 use native.Mathlib.Omega.{arith}
-use lib.ListN.{length}
 use borrow.Author.Needs.{needs}
 use Rattle.refusals.specs.Refusals.{notWellFormed}
 use Rattle.schedule.specs.WordLayout.{meant}
@@ -18,12 +16,12 @@ answer-dtai-requires c κs = (sym (c .before .before .before .is-list .ensures) 
 returns : tie.Need-returns
 returns c =
     let args = c .before .before .before .before .before .before .before .before .before .before .before .before .args in
-    hands-one (dtaiOn (meant (args .words .now))) (args .days .now) (c .before .before .before .before .before .before .before .before .shorter2 .ensures ∙ ap (λ x. min (length (args .days .now)) x) (c .before .before .before .before .before .before .before .before .before .shorter .ensures)) (c .before .before .before .answer-dtai .ensures)
+    hands-one (dtaiOn (meant (args .words .now))) (args .days .now) (omega arith) (c .before .before .before .answer-dtai .ensures)
 
 returns-2 : tie.Need-returns-2
 returns-2 c =
     let args = c .before .before .before .before .before .before .before .before .before .before .before .before .before .args in
-    refuses-one (dtaiOn (meant (args .words .now))) (args .days .now) (c .before .before .before .before .before .before .before .before .before .shorter2 .ensures ∙ ap (λ x. min (length (args .days .now)) x) (c .before .before .before .before .before .before .before .before .before .before .shorter .ensures))
+    refuses-one (dtaiOn (meant (args .words .now))) (args .days .now) (omega arith)
     (λ x. stop _ notWellFormed (sym (c .before .before .before .before .before .before .before .before .is-list .ensures) ∙ c .before .before .before .before .before .before .before .if1 .left)) (c .before .before .before .before .before .refuse .ensures) (c .before .clear-dtai .ensures)
 
 pub dtai-spec : {M : Type 1} → statement M

@@ -1,6 +1,5 @@
 -- `clock::many::tai_to_utc` meets its contract. Assumes nothing.
-use mathlib.Core.Path.{sym, ap₂, _∙_}
-use Prim.Native.Nat.{min}
+use mathlib.Core.Path.{sym, _∙_}
 use native.Mathlib.Omega.{arith}
 use borrow.Author.Needs.{needs}
 use Rattle.refusals.specs.Refusals.{notWellFormed}
@@ -17,12 +16,12 @@ answer-utc-requires c κs = (sym (c .before .before .before .before .is-list .en
 returns : tie.Need-returns
 returns c =
     let args = c .before .before .before .before .before .before .before .before .before .before .before .before .before .before .before .before .before .before .before .args in
-    hands-utcs (taiToUtc (meant (args .words .now))) (args .tais .now) (c .before .before .before .before .before .before .before .before .before .before .before .before .shorter3 .ensures ∙ ap₂ (λ x y. min x y) (c .before .before .before .before .before .before .before .before .before .before .before .before .before .before .shorter .ensures) (c .before .before .before .before .before .before .before .before .before .before .before .before .before .shorter2 .ensures)) (c .before .before .before .before .before .before .answer-utc .ensures)
+    hands-utcs (taiToUtc (meant (args .words .now))) (args .tais .now) (omega arith) (c .before .before .before .before .before .before .answer-utc .ensures)
 
 returns-2 : tie.Need-returns-2
 returns-2 c =
     let args = c .before .before .before .before .before .before .before .before .before .before .before .before .before .before .before .before .before .before .before .before .before .args in
-    refuses-utcs (taiToUtc (meant (args .words .now))) (args .tais .now) (c .before .before .before .before .before .before .before .before .before .before .before .before .before .before .shorter3 .ensures ∙ ap₂ (λ x y. min x y) (c .before .before .before .before .before .before .before .before .before .before .before .before .before .before .before .before .shorter .ensures) (c .before .before .before .before .before .before .before .before .before .before .before .before .before .before .before .shorter2 .ensures))
+    refuses-utcs (taiToUtc (meant (args .words .now))) (args .tais .now) (omega arith)
     (λ x. stop _ notWellFormed (sym (c .before .before .before .before .before .before .before .before .before .before .before .before .before .is-list .ensures) ∙ c .before .before .before .before .before .before .before .before .before .before .before .before .if1 .left)) (c .before .before .before .before .before .before .before .before .before .before .refuse .ensures) (c .before .before .before .before .before .before .clear .ensures) (c .before .before .clear2 .ensures)
 
 pub tai-to-utc-spec : {M : Type 1} → statement M
