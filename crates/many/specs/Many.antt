@@ -11,7 +11,8 @@ use Rattle.clock.specs.Question.{Answer, Utc, number, orZero}
 unfoldable pub overwrite : {A : Type 0} → List A → List A → List A
 overwrite new old = new ++ drop (length new) old
 
--- answers go into two arrays up to where the shortest of the three ends; the result is their count, and each has its number and its value, or 0, in its place
+-- The first answers go into two arrays, as many as the shortest of the three lists has; the result is how many. Each answer has its number, and its value or 0,
+-- in its place.
 pub record HandsMany {A : Type 0} (none : A) (answers : List (Answer A)) (numbers : List ℕ) (values : List A) (result : ℕ) (numbers′ : List ℕ) (values′ : List A) : Type 0 where
   pub its-count : result ≡ min (length answers) (min (length numbers) (length values))
   pub its-numbers : numbers′ ≡ overwrite (map number (take result answers)) numbers
@@ -24,7 +25,7 @@ dayOrZero answer = orZero (record { day = 0; micros = 0 }) answer .day
 abbrev pub microsOrZero : Answer Utc → ℕ
 microsOrZero answer = orZero (record { day = 0; micros = 0 }) answer .micros
 
--- TAI to UTC has three arrays to go into: the numbers, the days and their microseconds
+-- TAI to UTC has three arrays: the numbers, the days and their microseconds
 pub record HandsManyUtc (answers : List (Answer Utc)) (numbers days micros : List ℕ) (result : ℕ) (numbers′ days′ micros′ : List ℕ) : Type 0 where
   pub its-count : result ≡ min (length answers) (min (length numbers) (min (length days) (length micros)))
   pub its-numbers : numbers′ ≡ overwrite (map number (take result answers)) numbers
