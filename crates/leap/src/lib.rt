@@ -4,7 +4,6 @@ use clock::UtcMicros;
 use clock::UtsNanos;
 use clock::answers;
 use refusals::NOT_WELL_FORMED;
-ghost use Prim.Native.Nat.{min};
 ghost use lib.ListN.{length};
 ghost use Rattle.text.specs.Read.{readText};
 ghost use Rattle.text.specs.Write.{textOf};
@@ -12,10 +11,11 @@ ghost use Rattle.nybbles.specs.Read.{readNybbles};
 ghost use Rattle.nybbles.specs.Write.{nybblesOf};
 ghost use Rattle.compare.specs.Compare.{comparing, comparedInto};
 ghost use Rattle.compare.specs.Longer.{chosen, HandsBack};
+ghost use mathlib.Core.List.{map, zipWith};
 ghost use mathlib.Core.Path.{_≡_};
 ghost use lib.IntN.{pos};
 ghost use Rattle.clock.specs.Answers.{HandsValue, HandsUtc};
-ghost use Rattle.many.specs.Many.{answerAt, answersAt, HandsMany, HandsManyUtc};
+ghost use Rattle.many.specs.Many.{HandsMany, HandsManyUtc};
 ghost use Rattle.clock.specs.Question.{dtaiOn, utcToTai, taiToUtc, utcToUts, utsToUtc};
 ghost use Rattle.schedule.specs.WordLayout.{meant};
 ghost use Rattle.schedule.specs.Answers.{HandsReading};
@@ -172,7 +172,7 @@ pub extern "C" fn leap_dtai_many(
     numbers: &mut [u8],
     dtai: &mut [i32],
 ) -> u64
-    ensures { λ n. ⌜ HandsMany (pos 0) (answerAt (dtaiOn (meant (now (words .entry)))) (now (mjd .entry))) (min (length (now (mjd .entry))) (min (length (now (numbers .entry))) (length (now (dtai .entry))))) (now (numbers .entry)) (now (dtai .entry)) n (now (numbers .exit)) (now (dtai .exit)) ⌝ }
+    ensures { λ n. ⌜ HandsMany (pos 0) (map (dtaiOn (meant (now (words .entry)))) (now (mjd .entry))) (now (numbers .entry)) (now (dtai .entry)) n (now (numbers .exit)) (now (dtai .exit)) ⌝ }
 {
     many::dtai(words, mjd, numbers, dtai)
 }
@@ -186,7 +186,7 @@ pub extern "C" fn leap_utc_to_tai_many(
     numbers: &mut [u8],
     tai: &mut [u64],
 ) -> u64
-    ensures { λ n. ⌜ HandsMany 0 (answersAt (utcToTai (meant (now (words .entry)))) (now (mjd .entry)) (now (micros .entry))) (min (min (length (now (mjd .entry))) (length (now (micros .entry)))) (min (length (now (numbers .entry))) (length (now (tai .entry))))) (now (numbers .entry)) (now (tai .entry)) n (now (numbers .exit)) (now (tai .exit)) ⌝ }
+    ensures { λ n. ⌜ HandsMany 0 (zipWith (utcToTai (meant (now (words .entry)))) (now (mjd .entry)) (now (micros .entry))) (now (numbers .entry)) (now (tai .entry)) n (now (numbers .exit)) (now (tai .exit)) ⌝ }
 {
     many::utc_to_tai(words, mjd, micros, numbers, tai)
 }
@@ -200,7 +200,7 @@ pub extern "C" fn leap_tai_to_utc_many(
     mjd: &mut [u64],
     micros: &mut [u64],
 ) -> u64
-    ensures { λ n. ⌜ HandsManyUtc (answerAt (taiToUtc (meant (now (words .entry)))) (now (tai .entry))) (min (min (length (now (tai .entry))) (length (now (numbers .entry)))) (min (length (now (mjd .entry))) (length (now (micros .entry))))) (now (numbers .entry)) (now (mjd .entry)) (now (micros .entry)) n (now (numbers .exit)) (now (mjd .exit)) (now (micros .exit)) ⌝ }
+    ensures { λ n. ⌜ HandsManyUtc (map (taiToUtc (meant (now (words .entry)))) (now (tai .entry))) (now (numbers .entry)) (now (mjd .entry)) (now (micros .entry)) n (now (numbers .exit)) (now (mjd .exit)) (now (micros .exit)) ⌝ }
 {
     many::tai_to_utc(words, tai, numbers, mjd, micros)
 }
@@ -214,7 +214,7 @@ pub extern "C" fn leap_utc_to_uts_many(
     numbers: &mut [u8],
     nanos: &mut [u64],
 ) -> u64
-    ensures { λ n. ⌜ HandsMany 0 (answersAt (utcToUts (meant (now (words .entry)))) (now (mjd .entry)) (now (micros .entry))) (min (min (length (now (mjd .entry))) (length (now (micros .entry)))) (min (length (now (numbers .entry))) (length (now (nanos .entry))))) (now (numbers .entry)) (now (nanos .entry)) n (now (numbers .exit)) (now (nanos .exit)) ⌝ }
+    ensures { λ n. ⌜ HandsMany 0 (zipWith (utcToUts (meant (now (words .entry)))) (now (mjd .entry)) (now (micros .entry))) (now (numbers .entry)) (now (nanos .entry)) n (now (numbers .exit)) (now (nanos .exit)) ⌝ }
 {
     many::utc_to_uts(words, mjd, micros, numbers, nanos)
 }
@@ -228,7 +228,7 @@ pub extern "C" fn leap_uts_to_utc_many(
     numbers: &mut [u8],
     micros: &mut [u64],
 ) -> u64
-    ensures { λ n. ⌜ HandsMany 0 (answersAt (utsToUtc (meant (now (words .entry)))) (now (mjd .entry)) (now (nanos .entry))) (min (min (length (now (mjd .entry))) (length (now (nanos .entry)))) (min (length (now (numbers .entry))) (length (now (micros .entry))))) (now (numbers .entry)) (now (micros .entry)) n (now (numbers .exit)) (now (micros .exit)) ⌝ }
+    ensures { λ n. ⌜ HandsMany 0 (zipWith (utsToUtc (meant (now (words .entry)))) (now (mjd .entry)) (now (nanos .entry))) (now (numbers .entry)) (now (micros .entry)) n (now (numbers .exit)) (now (micros .exit)) ⌝ }
 {
     many::uts_to_utc(words, mjd, nanos, numbers, micros)
 }

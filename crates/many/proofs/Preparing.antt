@@ -19,9 +19,10 @@ use Rattle.schedule.specs.Schedule.{Schedule, noLeap, wellFormed}
 use Rattle.schedule.specs.Extends.{sameSign}
 use Rattle.schedule.specs.WordLayout.{expiryWord, meant}
 use Rattle.schedule.proofs.Cases.{by-bool}
-use Rattle.clock.specs.Private.{count, far, ofSign, Starts, Fenced, Tallies, Guesses, Prepared, Ready}
-use Rattle.clock.proofs.LaidOut.{last-meant}
+use Rattle.clock.specs.Tally.{count, ofSign}
+use Rattle.many.specs.Private.{far, Starts, Fenced, Tallies, Guesses, Prepared, Ready}
+use Rattle.questions.proofs.LaidOut.{last-meant}
 use Rattle.clock.proofs.Placed.{of-sign-next}
 
 -- ---- the days on which the first i leaps take effect
 pub record Starting (s : Schedule) (starts : List ℕ) (i : ℕ) : Type 0 where
@@ -143,11 +144,11 @@ guesses-one {starts} {guesses} p i at r b =
     }
 
 -- ---- the list, prepared
-module _ (words : List ℕ) {last : ℕ} {starts ups downs guesses : List ℕ} (w : wellFormed (meant words) ≡ true)
-    (l : (expiryWord words ≤ endDay → last ≡ expiryWord words - 1) × (last < endDay)) (f : Fenced starts × Starts (meant words) starts)
+module _ (words : List ℕ) {expiry last : ℕ} {starts ups downs guesses : List ℕ} (w : wellFormed (meant words) ≡ true) (x : expiry ≡ expiryWord words)
+    (l : (expiry ≤ endDay → last ≡ expiry - 1) × (last < endDay)) (f : Fenced starts × Starts (meant words) starts)
     (u : Tallies (meant words) Positive ups) (d : Tallies (meant words) Negative downs) (g : Guesses starts guesses) where
   pub prepared-list : Prepared (meant words) last starts ups downs
-  prepared-list = record { well = w; is-last = last-meant words w refl (l .0); starting = f .1; raised = u; lowered = d }
+  prepared-list = record { well = w; is-last = last-meant words w x (l .0); starting = f .1; raised = u; lowered = d }
 
-  pub ready-list : Ready last starts ups downs guesses
-  ready-list = record { fenced = f .0; guessed = g; inside = l .1; of = meant words; prepared = prepared-list }
+  pub ready-list : Ready last starts guesses
+  ready-list = record { fenced = f .0; guessed = g; inside = l .1 }

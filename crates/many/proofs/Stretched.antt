@@ -17,12 +17,14 @@ use Rattle.schedule.specs.declared.Sign.the-variants.{Positive, Negative}
 use Rattle.schedule.specs.Schedule.{Schedule, noLeap, wellFormed}
 use Rattle.schedule.specs.Extends.{sameSign}
 use Rattle.schedule.proofs.Gaps.{parts}
-use Rattle.clock.specs.declared.days.Ending.the-variants.{Ordinary, Inserted, Deleted}
-use Rattle.clock.specs.declared.days.Day.{Day}
+use Rattle.clock.specs.declared.Ending.the-variants.{Ordinary, Inserted, Deleted}
+use Rattle.questions.specs.declared.by_day.Day.{Day}
 use Rattle.clock.specs.Days.{endingOf, ending}
 use Rattle.clock.specs.Known.{lastDay}
-use Rattle.clock.specs.Private.{count, tally, ListFor, DayFor, Starts, Tallies, Stretch, Prepared}
+use Rattle.clock.specs.Tally.{count, tally}
+use Rattle.questions.specs.Said.{ListFor, DayFor}
+use Rattle.many.specs.Private.{Starts, Tallies, Stretch, Prepared}
 use Rattle.clock.proofs.Placed.{leapMonth, in-order, of-sign-next, Placed, tally-by, ending-same, ending-next}
 
 -- ---- by the days on which the leaps of a well-formed schedule take effect
 

@@ -1,33 +1,33 @@
--- Many questions under one list: what the arrays hold afterwards.
+-- Many questions under one list: what the arrays hold afterwards. The answers are `map ask xs`, to each element of an array, or
+-- `zipWith ask xs ys`, to the two elements at each place of two arrays, up to where the shorter one ends.
 -- Assumes nothing: these are definitions.
-use mathlib.Core.List.{List, [], _∷_}
+use mathlib.Core.List.{List, _++_, map}
 use mathlib.Core.Path.{_≡_}
-use Prim.Native.Nat.{ℕ, zero, suc}
-use lib.ListN.{getD}
+use Prim.Native.Nat.{ℕ, min}
+use lib.ListN.{length, take, drop}
 use Rattle.clock.specs.Question.{Answer, Utc, number, orZero}
 
--- an array whose first n elements are f 0, f 1 and so on; the others stay as they were
-unfoldable pub filled : {A : Type 0} → (ℕ → A) → ℕ → List A → List A
-filled f zero xs = xs
-filled f (suc n) [] = []
-filled f (suc n) (x ∷ xs) = f 0 ∷ filled (λ i. f (suc i)) n xs
+-- the new elements at the start, and the rest of the old as it was
+unfoldable pub overwrite : {A : Type 0} → List A → List A → List A
+overwrite new old = new ++ drop (length new) old
 
--- what is answered about element i of an array of days or of TAI, and about element i of two arrays
-abbrev pub answerAt : {A : Type 0} → (ℕ → Answer A) → List ℕ → ℕ → Answer A
-answerAt ask days i = ask (getD days i 0)
+-- The first answers go into two arrays, as many as the shortest of the three lists has; the result is how many. Each answer has its number, and its value or 0,
+-- in its place.
+pub record HandsMany {A : Type 0} (none : A) (answers : List (Answer A)) (numbers : List ℕ) (values : List A) (result : ℕ) (numbers′ : List ℕ) (values′ : List A) : Type 0 where
+  pub its-count : result ≡ min (length answers) (min (length numbers) (length values))
+  pub its-numbers : numbers′ ≡ overwrite (map number (take result answers)) numbers
+  pub its-values : values′ ≡ overwrite (map (orZero none) (take result answers)) values
 
-abbrev pub answersAt : {A : Type 0} → (ℕ → ℕ → Answer A) → List ℕ → List ℕ → ℕ → Answer A
-answersAt ask days times i = ask (getD days i 0) (getD times i 0)
+-- the day and the microseconds that TAI to UTC gives, 0 and 0 where it is refused
+abbrev pub dayOrZero : Answer Utc → ℕ
+dayOrZero answer = orZero (record { day = 0; micros = 0 }) answer .day
 
--- the first n questions are answered: each number and each value, or 0, stands in its place, and the result is n
-pub record HandsMany {A : Type 0} (none : A) (answer : ℕ → Answer A) (n : ℕ) (numbers : List ℕ) (values : List A) (result : ℕ) (numbers′ : List ℕ) (values′ : List A) : Type 0 where
-  pub its-count : result ≡ n
-  pub its-numbers : numbers′ ≡ filled (λ i. number (answer i)) n numbers
-  pub its-values : values′ ≡ filled (λ i. orZero none (answer i)) n values
+abbrev pub microsOrZero : Answer Utc → ℕ
+microsOrZero answer = orZero (record { day = 0; micros = 0 }) answer .micros
 
--- TAI to UTC gives two values: the days and their microseconds
-pub record HandsManyUtc (answer : ℕ → Answer Utc) (n : ℕ) (numbers days micros : List ℕ) (result : ℕ) (numbers′ days′ micros′ : List ℕ) : Type 0 where
-  pub its-count : result ≡ n
-  pub its-numbers : numbers′ ≡ filled (λ i. number (answer i)) n numbers
-  pub its-days : days′ ≡ filled (λ i. orZero (record { day = 0; micros = 0 }) (answer i) .day) n days
-  pub its-micros : micros′ ≡ filled (λ i. orZero (record { day = 0; micros = 0 }) (answer i) .micros) n micros
+-- TAI to UTC has three arrays: the numbers, the days and their microseconds
+pub record HandsManyUtc (answers : List (Answer Utc)) (numbers days micros : List ℕ) (result : ℕ) (numbers′ days′ micros′ : List ℕ) : Type 0 where
+  pub its-count : result ≡ min (length answers) (min (length numbers) (min (length days) (length micros)))
+  pub its-numbers : numbers′ ≡ overwrite (map number (take result answers)) numbers
+  pub its-days : days′ ≡ overwrite (map dayOrZero (take result answers)) days
+  pub its-micros : micros′ ≡ overwrite (map microsOrZero (take result answers)) micros

@@ -1,5 +1,22 @@
--- What only private functions are held to: a list prepared for many questions. No public contract and no promise speaks of these.
+-- What only private functions are held to: a list prepared for many questions, and the arrays that their loops fill. No public contract and no
+-- promise speaks of these.
 -- Assumes nothing: these are definitions.
+use mathlib.Core.Bool.{true}
+use mathlib.Core.List.{List, map}
+use mathlib.Core.Path.{_≡_}
+use Prim.Native.Nat.{ℕ, _+_, _*_, _≤_, _<_}
+use lib.ListN.{length, getD, take}
+use Rattle.calendar.specs.Calendar.{endDay, monthStart}
+use Rattle.schedule.specs.declared.Sign.{Sign}
+use Rattle.schedule.specs.declared.Sign.the-variants.{Positive, Negative}
+use Rattle.schedule.specs.Schedule.{Schedule, noLeap, wellFormed}
+use Rattle.clock.specs.Known.{lastDay}
+use Rattle.clock.specs.Question.{Answer, Utc, number, orZero}
+use Rattle.clock.specs.Tally.{ofSign}
+use Rattle.many.specs.Many.{overwrite, dayOrZero, microsOrZero}
+
+-- ---- a list prepared
+
 -- a day after all that are asked about
 abbrev pub far : ℕ
 far = 4_294_967_295
@@ -37,17 +54,25 @@ pub record Prepared (s : Schedule) (last : ℕ) (starts ups downs : List ℕ) : 
   pub raised : Tallies s Positive ups
   pub lowered : Tallies s Negative downs
 
--- a list prepared for some schedule, in which any search ends
-pub record Ready (last : ℕ) (starts ups downs guesses : List ℕ) : Type 0 where
+-- any search for a day up to the last one ends
+pub record Ready (last : ℕ) (starts guesses : List ℕ) : Type 0 where
   pub fenced : Fenced starts
   pub guessed : Guesses starts guesses
   pub inside : last < endDay
-  pub of : Schedule
-  pub prepared : Prepared of last starts ups downs
 
--- the first n questions are answered in their arrays
-abbrev pub Fills : {A : Type 0} → A → (ℕ → Answer A) → ℕ → List ℕ → List A → List ℕ → List A → Type 0
-Fills none answer n numbers values numbers′ values′ = HandsMany none answer n numbers values n numbers′ values′
+-- ---- arrays filled
 
-abbrev pub FillsUtc : (ℕ → Answer Utc) → ℕ → List ℕ → List ℕ → List ℕ → List ℕ → List ℕ → List ℕ → Type 0
-FillsUtc answer n numbers days micros numbers′ days′ micros′ = HandsManyUtc answer n numbers days micros n numbers′ days′ micros′
+-- an array after its first elements were overwritten: it is as long as before
+pub record Overwritten {A : Type 0} (new old array : List A) : Type 0 where
+  pub is : array ≡ overwrite new old
+  pub size : length array ≡ length old
+
+-- the first n answers stand in their arrays
+pub record Fills {A : Type 0} (none : A) (answers : List (Answer A)) (n : ℕ) (numbers : List ℕ) (values : List A) (numbers′ : List ℕ) (values′ : List A) : Type 0 where
+  pub told : Overwritten (map number (take n answers)) numbers numbers′
+  pub valued : Overwritten (map (orZero none) (take n answers)) values values′
+
+pub record FillsUtc (answers : List (Answer Utc)) (n : ℕ) (numbers days micros numbers′ days′ micros′ : List ℕ) : Type 0 where
+  pub told : Overwritten (map number (take n answers)) numbers numbers′
+  pub dated : Overwritten (map dayOrZero (take n answers)) days days′
+  pub timed : Overwritten (map microsOrZero (take n answers)) micros micros′

@@ -1,12 +1,15 @@
-// Many questions under one list as 514 words: the list is checked and prepared once, and then each instant is answered as a single question
-// would be.
+// Many questions under one list: the list is checked and prepared once, and then each instant is answered as a single question would be.
+ghost use mathlib.Core.List.{map, zipWith};
 ghost use mathlib.Core.Path.{_≡_};
 ghost use Prim.Native.Nat.{min};
 ghost use lib.IntN.{pos};
-ghost use lib.ListN.{length};
 ghost use Rattle.schedule.specs.WordLayout.{meant};
 ghost use Rattle.clock.specs.Question.{dtaiOn, utcToTai, taiToUtc, utcToUts, utsToUtc};
-ghost use Rattle.clock.specs.Many.{answerAt, answersAt, HandsMany, HandsManyUtc};
+ghost use Rattle.many.specs.Many.{HandsMany, HandsManyUtc};
+
+mod loops; // loops.rt: a loop for each question
+mod stretches; // stretches.rt: the list prepared
+
 use crate::loops::answer_dtai;
 use crate::loops::answer_micros;
 use crate::loops::answer_tai;
@@ -27,7 +30,7 @@ fn shorter(a: usize, b: usize) -> usize
 
 // DTAI for each date.
 pub fn dtai(words: &[u32; 514], days: &[u64], numbers: &mut [u8], dtais: &mut [i32]) -> u64
-    ensures { λ n. ⌜ HandsMany (pos 0) (answerAt (dtaiOn (meant (now (words .entry)))) (now (days .entry))) (min (length (now (days .entry))) (min (length (now (numbers .entry))) (length (now (dtais .entry))))) (now (numbers .entry)) (now (dtais .entry)) n (now (numbers .exit)) (now (dtais .exit)) ⌝ }
+    ensures { λ n. ⌜ HandsMany (pos 0) (map (dtaiOn (meant (now (words .entry)))) (now (days .entry))) (now (numbers .entry)) (now (dtais .entry)) n (now (numbers .exit)) (now (dtais .exit)) ⌝ }
 {
     let n = shorter(days.len(), shorter(numbers.len(), dtais.len()));
     if schedule::is_list(words) {
@@ -47,7 +50,7 @@ pub fn utc_to_tai(
     numbers: &mut [u8],
     tais: &mut [u64],
 ) -> u64
-    ensures { λ n. ⌜ HandsMany 0 (answersAt (utcToTai (meant (now (words .entry)))) (now (days .entry)) (now (micros .entry))) (min (min (length (now (days .entry))) (length (now (micros .entry)))) (min (length (now (numbers .entry))) (length (now (tais .entry))))) (now (numbers .entry)) (now (tais .entry)) n (now (numbers .exit)) (now (tais .exit)) ⌝ }
+    ensures { λ n. ⌜ HandsMany 0 (zipWith (utcToTai (meant (now (words .entry)))) (now (days .entry)) (now (micros .entry))) (now (numbers .entry)) (now (tais .entry)) n (now (numbers .exit)) (now (tais .exit)) ⌝ }
 {
     let n = shorter(
         shorter(days.len(), micros.len()),
@@ -70,7 +73,7 @@ pub fn utc_to_uts(
     numbers: &mut [u8],
     nanos: &mut [u64],
 ) -> u64
-    ensures { λ n. ⌜ HandsMany 0 (answersAt (utcToUts (meant (now (words .entry)))) (now (days .entry)) (now (micros .entry))) (min (min (length (now (days .entry))) (length (now (micros .entry)))) (min (length (now (numbers .entry))) (length (now (nanos .entry))))) (now (numbers .entry)) (now (nanos .entry)) n (now (numbers .exit)) (now (nanos .exit)) ⌝ }
+    ensures { λ n. ⌜ HandsMany 0 (zipWith (utcToUts (meant (now (words .entry)))) (now (days .entry)) (now (micros .entry))) (now (numbers .entry)) (now (nanos .entry)) n (now (numbers .exit)) (now (nanos .exit)) ⌝ }
 {
     let n = shorter(
         shorter(days.len(), micros.len()),
@@ -93,7 +96,7 @@ pub fn uts_to_utc(
     numbers: &mut [u8],
     micros: &mut [u64],
 ) -> u64
-    ensures { λ n. ⌜ HandsMany 0 (answersAt (utsToUtc (meant (now (words .entry)))) (now (days .entry)) (now (nanos .entry))) (min (min (length (now (days .entry))) (length (now (nanos .entry)))) (min (length (now (numbers .entry))) (length (now (micros .entry))))) (now (numbers .entry)) (now (micros .entry)) n (now (numbers .exit)) (now (micros .exit)) ⌝ }
+    ensures { λ n. ⌜ HandsMany 0 (zipWith (utsToUtc (meant (now (words .entry)))) (now (days .entry)) (now (nanos .entry))) (now (numbers .entry)) (now (micros .entry)) n (now (numbers .exit)) (now (micros .exit)) ⌝ }
 {
     let n = shorter(
         shorter(days.len(), nanos.len()),
@@ -116,7 +119,7 @@ pub fn tai_to_utc(
     days: &mut [u64],
     micros: &mut [u64],
 ) -> u64
-    ensures { λ n. ⌜ HandsManyUtc (answerAt (taiToUtc (meant (now (words .entry)))) (now (tais .entry))) (min (min (length (now (tais .entry))) (length (now (numbers .entry)))) (min (length (now (days .entry))) (length (now (micros .entry))))) (now (numbers .entry)) (now (days .entry)) (now (micros .entry)) n (now (numbers .exit)) (now (days .exit)) (now (micros .exit)) ⌝ }
+    ensures { λ n. ⌜ HandsManyUtc (map (taiToUtc (meant (now (words .entry)))) (now (tais .entry))) (now (numbers .entry)) (now (days .entry)) (now (micros .entry)) n (now (numbers .exit)) (now (days .exit)) (now (micros .exit)) ⌝ }
 {
     let n = shorter(
         shorter(tais.len(), numbers.len()),

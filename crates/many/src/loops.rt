@@ -1,45 +1,46 @@
 // The loops of the calls for many: under a well-formed list each instant is answered as a single question would be, and under another each is
 // refused.
+ghost use mathlib.Core.List.{map, zipWith};
 ghost use mathlib.Core.Path.{_≡_};
 ghost use mathlib.Core.Bool.{true};
 ghost use Prim.Native.Nat.{_≤_};
 ghost use lib.IntN.{pos};
-ghost use lib.ListN.{length};
+ghost use lib.ListN.{length, replicate};
 ghost use Rattle.schedule.specs.Schedule.{Schedule, wellFormed};
 ghost use Rattle.schedule.specs.WordLayout.{meant};
 ghost use Rattle.clock.specs.Question.{dtaiOn, utcToTai, taiToUtc, utcToUts, utsToUtc};
 ghost use Rattle.clock.specs.Answers.{HandsValue};
 ghost use Rattle.refusals.specs.Refusals.{notWellFormed};
-ghost use Rattle.clock.specs.Many.{filled, answerAt, answersAt};
-ghost use Rattle.clock.specs.Private.{Prepared, Ready, Fills, FillsUtc};
-use crate::answers::dtai_number;
-use crate::answers::dtai_value;
-use crate::answers::micros_number;
-use crate::answers::micros_value;
-use crate::answers::tai_number;
-use crate::answers::tai_value;
-use crate::answers::utc_day;
-use crate::answers::utc_micros;
-use crate::answers::utc_number;
-use crate::answers::uts_number;
-use crate::answers::uts_value;
-use crate::days::day_before;
-use crate::questions::NANOS_CUTOFF;
-use crate::questions::UTS_CUTOFF;
-use crate::questions::dtai_on;
-use crate::questions::early_micros;
-use crate::questions::early_uts;
-use crate::questions::micros_on;
-use crate::questions::near_day;
-use crate::questions::tai_on;
-use crate::questions::utc_on;
-use crate::questions::uts_on;
+ghost use Rattle.many.specs.Private.{Prepared, Ready, Overwritten, Fills, FillsUtc};
 use crate::stretches::found;
 use crate::stretches::guesses_of;
 use crate::stretches::starts_of;
 use crate::stretches::tallies_of;
+use clock::NANOS_CUTOFF;
+use clock::UTS_CUTOFF;
+use clock::answers::dtai_number;
+use clock::answers::dtai_value;
+use clock::answers::micros_number;
+use clock::answers::micros_value;
+use clock::answers::tai_number;
+use clock::answers::tai_value;
+use clock::answers::utc_day;
+use clock::answers::utc_micros;
+use clock::answers::utc_number;
+use clock::answers::uts_number;
+use clock::answers::uts_value;
+use questions::by_day::day_before;
+use questions::by_day::dtai_on;
+use questions::by_day::early_micros;
+use questions::by_day::early_uts;
+use questions::by_day::micros_on;
+use questions::by_day::near_day;
+use questions::by_day::tai_on;
+use questions::by_day::utc_on;
+use questions::by_day::uts_on;
 use refusals::NOT_WELL_FORMED;
 use schedule::Sign;
+use schedule::expiry_of;
 
 // An answer's number, and its value or 0.
 struct Reply {
@@ -57,7 +58,7 @@ fn reply_tai(
     day: u64,
     micros: u64,
 ) -> Reply
-    requires { ⌜ Ready last (now starts) (now ups) (now downs) (now guesses) ⌝ }
+    requires { ⌜ Ready last (now starts) (now guesses) ⌝ }
     ensures { λ r. ⌜ ((s : Schedule) → Prepared s last (now (starts .entry)) (now (ups .entry)) (now (downs .entry)) → HandsValue 0 (utcToTai s day micros) (r .number) (r .value)) ⌝ }
 {
     let a = tai_on(found(starts, ups, downs, guesses, last, day), day, micros);
@@ -77,7 +78,7 @@ fn reply_uts(
     day: u64,
     micros: u64,
 ) -> Reply
-    requires { ⌜ Ready last (now starts) (now ups) (now downs) (now guesses) ⌝ }
+    requires { ⌜ Ready last (now starts) (now guesses) ⌝ }
     ensures { λ r. ⌜ ((s : Schedule) → Prepared s last (now (starts .entry)) (now (ups .entry)) (now (downs .entry)) → HandsValue 0 (utcToUts s day micros) (r .number) (r .value)) ⌝ }
 {
     if micros < UTS_CUTOFF {
@@ -104,7 +105,7 @@ fn reply_micros(
     day: u64,
     nanos: u64,
 ) -> Reply
-    requires { ⌜ Ready last (now starts) (now ups) (now downs) (now guesses) ⌝ }
+    requires { ⌜ Ready last (now starts) (now guesses) ⌝ }
     ensures { λ r. ⌜ ((s : Schedule) → Prepared s last (now (starts .entry)) (now (ups .entry)) (now (downs .entry)) → HandsValue 0 (utsToUtc s day nanos) (r .number) (r .value)) ⌝ }
 {
     if nanos < NANOS_CUTOFF {
@@ -124,7 +125,7 @@ fn reply_micros(
 // The first n numbers, of a list that is not well formed.
 pub(crate) fn refuse(numbers: &mut [u8], n: usize)
     requires { ⌜ n ≤ length (now numbers) ⌝ }
-    ensures { λ _. ⌜ now (numbers .exit) ≡ filled (λ i. notWellFormed) n (now (numbers .entry)) ⌝ }
+    ensures { λ _. ⌜ Overwritten (replicate n notWellFormed) (now (numbers .entry)) (now (numbers .exit)) ⌝ }
 {
     let mut i: usize = 0;
     while i < n {
@@ -136,7 +137,7 @@ pub(crate) fn refuse(numbers: &mut [u8], n: usize)
 // The first n values, all refused.
 pub(crate) fn clear(values: &mut [u64], n: usize)
     requires { ⌜ n ≤ length (now values) ⌝ }
-    ensures { λ _. ⌜ now (values .exit) ≡ filled (λ i. 0) n (now (values .entry)) ⌝ }
+    ensures { λ _. ⌜ Overwritten (replicate n 0) (now (values .entry)) (now (values .exit)) ⌝ }
 {
     let mut i: usize = 0;
     while i < n {
@@ -148,7 +149,7 @@ pub(crate) fn clear(values: &mut [u64], n: usize)
 // The same for values of DTAI.
 pub(crate) fn clear_dtai(values: &mut [i32], n: usize)
     requires { ⌜ n ≤ length (now values) ⌝ }
-    ensures { λ _. ⌜ now (values .exit) ≡ filled (λ i. pos 0) n (now (values .entry)) ⌝ }
+    ensures { λ _. ⌜ Overwritten (replicate n (pos 0)) (now (values .entry)) (now (values .exit)) ⌝ }
 {
     let mut i: usize = 0;
     while i < n {
@@ -166,9 +167,9 @@ pub(crate) fn answer_dtai(
     n: usize,
 )
     requires { ⌜ (wellFormed (meant (now words)) ≡ true) × (n ≤ length (now days)) × (n ≤ length (now numbers)) × (n ≤ length (now dtais)) ⌝ }
-    ensures { λ _. ⌜ Fills (pos 0) (answerAt (dtaiOn (meant (now (words .entry)))) (now (days .entry))) n (now (numbers .entry)) (now (dtais .entry)) (now (numbers .exit)) (now (dtais .exit)) ⌝ }
+    ensures { λ _. ⌜ Fills (pos 0) (map (dtaiOn (meant (now (words .entry)))) (now (days .entry))) n (now (numbers .entry)) (now (dtais .entry)) (now (numbers .exit)) (now (dtais .exit)) ⌝ }
 {
-    let last = day_before(words[513]);
+    let last = day_before(expiry_of(words));
     let starts = starts_of(words);
     let ups = tallies_of(words, Sign::Positive);
     let downs = tallies_of(words, Sign::Negative);
@@ -193,9 +194,9 @@ pub(crate) fn answer_tai(
     n: usize,
 )
     requires { ⌜ (wellFormed (meant (now words)) ≡ true) × (n ≤ length (now days)) × (n ≤ length (now micros)) × (n ≤ length (now numbers)) × (n ≤ length (now tais)) ⌝ }
-    ensures { λ _. ⌜ Fills 0 (answersAt (utcToTai (meant (now (words .entry)))) (now (days .entry)) (now (micros .entry))) n (now (numbers .entry)) (now (tais .entry)) (now (numbers .exit)) (now (tais .exit)) ⌝ }
+    ensures { λ _. ⌜ Fills 0 (zipWith (utcToTai (meant (now (words .entry)))) (now (days .entry)) (now (micros .entry))) n (now (numbers .entry)) (now (tais .entry)) (now (numbers .exit)) (now (tais .exit)) ⌝ }
 {
-    let last = day_before(words[513]);
+    let last = day_before(expiry_of(words));
     let starts = starts_of(words);
     let ups = tallies_of(words, Sign::Positive);
     let downs = tallies_of(words, Sign::Negative);
@@ -219,9 +220,9 @@ pub(crate) fn answer_uts(
     n: usize,
 )
     requires { ⌜ (wellFormed (meant (now words)) ≡ true) × (n ≤ length (now days)) × (n ≤ length (now micros)) × (n ≤ length (now numbers)) × (n ≤ length (now nanos)) ⌝ }
-    ensures { λ _. ⌜ Fills 0 (answersAt (utcToUts (meant (now (words .entry)))) (now (days .entry)) (now (micros .entry))) n (now (numbers .entry)) (now (nanos .entry)) (now (numbers .exit)) (now (nanos .exit)) ⌝ }
+    ensures { λ _. ⌜ Fills 0 (zipWith (utcToUts (meant (now (words .entry)))) (now (days .entry)) (now (micros .entry))) n (now (numbers .entry)) (now (nanos .entry)) (now (numbers .exit)) (now (nanos .exit)) ⌝ }
 {
-    let last = day_before(words[513]);
+    let last = day_before(expiry_of(words));
     let starts = starts_of(words);
     let ups = tallies_of(words, Sign::Positive);
     let downs = tallies_of(words, Sign::Negative);
@@ -245,9 +246,9 @@ pub(crate) fn answer_micros(
     n: usize,
 )
     requires { ⌜ (wellFormed (meant (now words)) ≡ true) × (n ≤ length (now days)) × (n ≤ length (now nanos)) × (n ≤ length (now numbers)) × (n ≤ length (now micros)) ⌝ }
-    ensures { λ _. ⌜ Fills 0 (answersAt (utsToUtc (meant (now (words .entry)))) (now (days .entry)) (now (nanos .entry))) n (now (numbers .entry)) (now (micros .entry)) (now (numbers .exit)) (now (micros .exit)) ⌝ }
+    ensures { λ _. ⌜ Fills 0 (zipWith (utsToUtc (meant (now (words .entry)))) (now (days .entry)) (now (nanos .entry))) n (now (numbers .entry)) (now (micros .entry)) (now (numbers .exit)) (now (micros .exit)) ⌝ }
 {
-    let last = day_before(words[513]);
+    let last = day_before(expiry_of(words));
     let starts = starts_of(words);
     let ups = tallies_of(words, Sign::Positive);
     let downs = tallies_of(words, Sign::Negative);
@@ -271,9 +272,9 @@ pub(crate) fn answer_utc(
     n: usize,
 )
     requires { ⌜ (wellFormed (meant (now words)) ≡ true) × (n ≤ length (now tais)) × (n ≤ length (now numbers)) × (n ≤ length (now days)) × (n ≤ length (now micros)) ⌝ }
-    ensures { λ _. ⌜ FillsUtc (answerAt (taiToUtc (meant (now (words .entry)))) (now (tais .entry))) n (now (numbers .entry)) (now (days .entry)) (now (micros .entry)) (now (numbers .exit)) (now (days .exit)) (now (micros .exit)) ⌝ }
+    ensures { λ _. ⌜ FillsUtc (map (taiToUtc (meant (now (words .entry)))) (now (tais .entry))) n (now (numbers .entry)) (now (days .entry)) (now (micros .entry)) (now (numbers .exit)) (now (days .exit)) (now (micros .exit)) ⌝ }
 {
-    let last = day_before(words[513]);
+    let last = day_before(expiry_of(words));
     let starts = starts_of(words);
     let ups = tallies_of(words, Sign::Positive);
     let downs = tallies_of(words, Sign::Negative);

@@ -9,11 +9,13 @@ ghost use Rattle.calendar.specs.Calendar.{endDay};
 ghost use Rattle.schedule.specs.Schedule.{Schedule, wellFormed};
 ghost use Rattle.schedule.specs.WordLayout.{signOf, meant};
 ghost use Rattle.schedule.specs.Extends.{sameSign};
 ghost use Rattle.clock.specs.Days.{ending};
-ghost use Rattle.clock.specs.Private.{count, DayFor, Stretch, Starts, Tallies, Fenced, Guesses, Prepared};
-use crate::days::Day;
-use crate::days::Ending;
-use crate::questions::smaller;
+ghost use Rattle.clock.specs.Tally.{count};
+ghost use Rattle.questions.specs.Said.{DayFor};
+ghost use Rattle.many.specs.Private.{Stretch, Starts, Tallies, Fenced, Guesses, Prepared, Ready};
+use clock::Ending;
+use questions::by_day::Day;
+use questions::by_day::smaller;
 use schedule::Sign;
 
 // A day after all that are asked about.
@@ -133,7 +135,7 @@ pub(crate) fn found(
     last: u64,
     day: u64,
 ) -> Day
-    requires { ⌜ Fenced (now starts) × Guesses (now starts) (now guesses) × (last < endDay) ⌝ }
+    requires { ⌜ Ready last (now starts) (now guesses) ⌝ }
     ensures { λ r. ⌜ ((s : Schedule) → Prepared s last (now (starts .entry)) (now (ups .entry)) (now (downs .entry)) → DayFor s day r) ⌝ }
 {
     let near = smaller(day, last);

@@ -11,7 +11,7 @@ use Rattle.schedule.specs.Schedule.{Schedule, wellFormed}
 use Rattle.questions.specs.declared.look.Survey.{Survey}
 use Rattle.questions.specs.declared.by_day.Day.{Day}
 use Rattle.clock.specs.Known.{lastDay, knownTo, known}
-use Rattle.questions.specs.Said.{ListFor, DayFor, nearDay}
+use Rattle.questions.specs.Said.{ListFor, DayFor}
 use Rattle.questions.specs.Private.{Surveyed, SurveyedOn}
 use Rattle.clock.proofs.Tai.{last-inside}
 

@@ -14,7 +14,7 @@ use Rattle.format.proofs.Cases.{by-bool}
 use Rattle.schedule.specs.Schedule.{wellFormed}
 use Rattle.schedule.specs.WordLayout.{leapWords, meant, wordsOf}
 use Rattle.schedule.proofs.Gaps.{blank-refused}
-use Rattle.schedule.proofs.Stand.{blank-stands}
+use Rattle.schedule.proofs.Meant.{blank-stands}
 use Rattle.text.specs.Read.{readText}
 use Rattle.clock.specs.Question.{given, refused, utcToUts}
 use Rattle.stream.specs.Stream.{after}

@@ -11,7 +11,7 @@ use borrow.Author.Tests.{eqb-true}
 use Rattle.schedule.specs.Schedule.{Schedule, wellFormed, blankSchedule}
 use Rattle.schedule.specs.WordLayout.{meant, wordsOf}
 use Rattle.schedule.proofs.Gaps.{blank-refused}
-use Rattle.schedule.proofs.Stand.{blank-stands, words-stand}
+use Rattle.schedule.proofs.Meant.{blank-stands, words-stand}
 use Rattle.format.proofs.Cases.{by-bool}
 use Rattle.text.specs.Read.{readText}
 use Rattle.text.proofs.Sound.{read-formed, accepted-well-formed}
@@ -27,7 +27,7 @@ use Rattle.replay.specs.Times.{replies, Accepted, accepted-here, accepte
 
 -- the words of a list that was accepted stand for it
 pub stands : (bytes : List ℕ) → readText bytes .number ≡ 0 → meant (wordsOf (readText bytes .schedule)) ≡ readText bytes .schedule
-stands bytes e = words-stand (readText bytes .schedule) (read-formed bytes .full) (accepted-well-formed bytes e)
+stands bytes e = words-stand (readText bytes .schedule) (accepted-well-formed bytes e)
 
 -- ---- a time
 

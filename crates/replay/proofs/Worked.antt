@@ -8,8 +8,8 @@ use Rattle.format.specs.Decimal.{digitsIn, decimal, numberOf, allDigits, valueA
 use Rattle.format.specs.Parts.{parts}
 use Rattle.format.specs.Refusal.{refusal}
 use Rattle.calendar.specs.Calendar.{isLeapYear, monthLengths, daysInMonth, monthStart}
-use Rattle.schedule.specs.Schedule.{gapsFit, allUnused}
-use Rattle.schedule.specs.WordLayout.{wordsOf, leapWords, meant, standForLeaps, signsFit, leapsAt}
+use Rattle.schedule.specs.Schedule.{gapsFit}
+use Rattle.schedule.specs.WordLayout.{wordsOf, leapWords, meant, sameWords, leapsIn}
 use Rattle.text.specs.Read.{readFrom, readText}
 use Rattle.clock.specs.Known.{knownTo}
 use Rattle.clock.specs.Smoothed.{uts}
@@ -66,5 +66,5 @@ table =
 
 -- every row of the table holds of the definitions
 pub worked : SayAll table
-unfolding repliesTo replies output printed shown linesOf sizeOf parts reply next meaning shortNumber readText readFrom numberOf allDigits within valueAfter refusal decimal digitsIn wordsOf leapWords meant standForLeaps signsFit leapsAt isLeapYear monthLengths daysInMonth monthStart gapsFit allUnused knownTo uts
+unfolding repliesTo replies output printed shown linesOf sizeOf parts reply next meaning shortNumber readText readFrom numberOf allDigits within valueAfter refusal decimal digitsIn wordsOf leapWords meant sameWords leapsIn isLeapYear monthLengths daysInMonth monthStart gapsFit knownTo uts
 worked = (refl, (refl, (refl, (refl, (refl, (refl, (refl, (refl, (refl, (refl, (refl, (refl, (refl, (refl, (refl, (refl, (refl, (refl, tt))))))))))))))))))

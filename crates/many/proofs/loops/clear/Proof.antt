@@ -1,63 +1,16 @@
--- `clock::loops::clear` meets its contract. Assumes nothing.
-use mathlib.Core.Path.{refl}
-use Prim.Native.Nat.{ℕ, _-_}
+-- `many::loops::clear` meets its contract. Assumes nothing.
+use Prim.Native.Nat.{_-_}
 use native.Mathlib.Omega.{arith}
-use Rattle.clock.proofs.Filled.{Upto, upto-none, upto-length, upto-one, upto-all}
-use Rattle.clock.proofs.loops.clear.Statement.{statement}
-use Rattle.clock.proofs.loops.clear.Tie as tie
+use borrow.Author.Needs.{needs}
+use Rattle.many.proofs.Answering.{Repeating, repeated-none, repeated-one, repeated-all}
+use Rattle.many.proofs.loops.clear.Statement.{statement}
+use Rattle.many.proofs.loops.clear.Tie as tie
 
 abbrev Inv-loop : tie.InvT-loop
-Inv-loop values₀ n i₀ values i = Upto (λ (k : ℕ). 0) n values₀ values i
+Inv-loop values₀ n i₀ values i = Repeating 0 n values₀ values i
 
 abbrev μ-loop : tie.MeasureT-loop
 μ-loop values₀ n i₀ values i = n - i
-
-loop-holds : tie.Need-loop-holds Inv-loop μ-loop
-loop-holds c =
-    let args = c .args in
-    upto-none (λ (k : ℕ). 0) (args .n) (args .values .now)
-
-mul-values : tie.Need-mul-values Inv-loop μ-loop
-mul-values c =
-    let loop-test = c .loop-test in
-    let pre = c .before .before .pre in
-    let good = c .before .before .good in
-    omega (arith, loop-test .taken, pre, good .0 .1)
-
-slice-write-values : tie.Need-slice-write-values Inv-loop μ-loop
-slice-write-values c =
-    let args = c .before .before .args in
-    let loop = c .before .loop in
-    let loop-test = c .loop-test in
-    let pre = c .before .before .pre in
-    omega (arith, upto-length (λ (k : ℕ). 0) (args .n) (args .values .now) (loop .values) (loop .i) (loop .inv), loop-test .taken, pre)
-
-add-i : tie.Need-add-i Inv-loop μ-loop
-add-i c =
-    let loop-test = c .loop-test in
-    let fits = c .before .before .fits in
-    omega (arith, loop-test .taken, fits .n .fits)
-
-loop-again : tie.Need-loop-again Inv-loop μ-loop
-loop-again c =
-    let args = c .before .before .args in
-    let loop = c .before .loop in
-    let loop-test = c .loop-test in
-    let pre = c .before .before .pre in
-    upto-one (λ (k : ℕ). 0) (args .n) (args .values .now) (loop .values) (loop .i) (loop .inv) (loop-test .taken) (pre) (0) refl
-
-same-length : tie.Need-same-length Inv-loop μ-loop
-same-length c =
-    let args = c .before .before .args in
-    let loop = c .before .loop in
-    upto-length (λ (k : ℕ). 0) (args .n) (args .values .now) (loop .values) (loop .i) (loop .inv)
-
-returns : tie.Need-returns Inv-loop μ-loop
-returns c =
-    let args = c .before .before .args in
-    let loop = c .before .loop in
-    let loop-test = c .loop-test in
-    upto-all (λ (k : ℕ). 0) (args .n) (args .values .now) (loop .values) (loop .i) (loop .inv) (loop-test .left)
 
 pub clear-spec : {M : Type 1} → statement M
 clear-spec =
@@ -65,11 +18,11 @@ clear-spec =
     (tie.spec
     Inv-loop
     μ-loop
-    loop-holds
-    mul-values
-    slice-write-values
-    add-i
+    (λ c. repeated-none)
+    (λ c. search needs)
+    (λ c. search needs)
+    (λ c. search needs)
     (λ c. omega arith)
-    loop-again
-    same-length
-    returns)
+    (λ c. repeated-one (c .before .loop .inv) (c .loop-test .taken) (c .before .before .pre))
+    (λ c. search needs)
+    (λ c. repeated-all (c .before .loop .inv) (c .loop-test .left)))

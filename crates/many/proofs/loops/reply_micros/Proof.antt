@@ -1,28 +1,17 @@
--- `clock::loops::reply_micros` meets its contract. Assumes nothing.
+-- `many::loops::reply_micros` meets its contract. Assumes nothing.
 use borrow.Author.Needs.{needs}
 use Rattle.clock.specs.Answers.{microsAnswer, microsNumber, microsValue}
-use Rattle.clock.proofs.Stretched.{list-in}
+use Rattle.many.proofs.Stretched.{list-in}
 use Rattle.clock.proofs.Numbers.{micros-told, hands-value}
-use Rattle.clock.proofs.loops.reply_micros.Statement.{statement}
-use Rattle.clock.proofs.loops.reply_micros.Tie as tie
+use Rattle.many.proofs.loops.reply_micros.Statement.{statement}
+use Rattle.many.proofs.loops.reply_micros.Tie as tie
 
 returns : tie.Need-returns
 returns c s p =
     let early-micros = c .before .before .early-micros in
     let micros-number = c .before .micros-number in
     let micros-value = c .micros-value in
-    hands-value 0 microsAnswer microsNumber microsValue micros-told _ _ (early-micros .ensures s (list-in p)) _ (micros-number .ensures) _ (micros-value .ensures)
-
-found-requires : tie.Need-found-requires
-found-requires c κs =
-    let pre = c .before .pre in
-    (pre .fenced, pre .guessed, pre .inside)
-
-micros-on-requires : tie.Need-micros-on-requires
-micros-on-requires c κs =
-    let pre = c .before .before .pre in
-    let found = c .found in
-    record { by = pre .of; day-for = found .ensures (pre .of) (pre .prepared) }
+    hands-value 0 microsAnswer microsNumber microsValue micros-told _ _ (early-micros .ensures s (list-in p) (c .before .before .before .if1 .taken)) _ (micros-number .ensures) _ (micros-value .ensures)
 
 returns-2 : tie.Need-returns-2
 returns-2 c s p =
@@ -40,8 +29,8 @@ reply-micros-spec =
     (λ c κs. search needs)
     (λ c κs. search needs)
     returns
-    found-requires
-    micros-on-requires
+    (λ c κs. search needs)
+    (λ c κs. search needs)
     (λ c κs. search needs)
     (λ c κs. search needs)
     returns-2)

@@ -1,28 +1,17 @@
--- `clock::loops::reply_uts` meets its contract. Assumes nothing.
+-- `many::loops::reply_uts` meets its contract. Assumes nothing.
 use borrow.Author.Needs.{needs}
 use Rattle.clock.specs.Answers.{utsAnswer, utsNumber, utsValue}
-use Rattle.clock.proofs.Stretched.{list-in}
+use Rattle.many.proofs.Stretched.{list-in}
 use Rattle.clock.proofs.Numbers.{uts-told, hands-value}
-use Rattle.clock.proofs.loops.reply_uts.Statement.{statement}
-use Rattle.clock.proofs.loops.reply_uts.Tie as tie
+use Rattle.many.proofs.loops.reply_uts.Statement.{statement}
+use Rattle.many.proofs.loops.reply_uts.Tie as tie
 
 returns : tie.Need-returns
 returns c s p =
     let early-uts = c .before .before .early-uts in
     let uts-number = c .before .uts-number in
     let uts-value = c .uts-value in
-    hands-value 0 utsAnswer utsNumber utsValue uts-told _ _ (early-uts .ensures s (list-in p)) _ (uts-number .ensures) _ (uts-value .ensures)
-
-found-requires : tie.Need-found-requires
-found-requires c κs =
-    let pre = c .before .pre in
-    (pre .fenced, pre .guessed, pre .inside)
-
-uts-on-requires : tie.Need-uts-on-requires
-uts-on-requires c κs =
-    let pre = c .before .before .pre in
-    let found = c .found in
-    record { by = pre .of; day-for = found .ensures (pre .of) (pre .prepared) }
+    hands-value 0 utsAnswer utsNumber utsValue uts-told _ _ (early-uts .ensures s (list-in p) (c .before .before .before .if1 .taken)) _ (uts-number .ensures) _ (uts-value .ensures)
 
 returns-2 : tie.Need-returns-2
 returns-2 c s p =
@@ -40,8 +29,8 @@ reply-uts-spec =
     (λ c κs. search needs)
     (λ c κs. search needs)
     returns
-    found-requires
-    uts-on-requires
+    (λ c κs. search needs)
+    (λ c κs. search needs)
     (λ c κs. search needs)
     (λ c κs. search needs)
     returns-2)

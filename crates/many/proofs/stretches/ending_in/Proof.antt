@@ -1,8 +1,8 @@
--- `clock::stretches::ending_in` meets its contract. Assumes nothing.
+-- `many::stretches::ending_in` meets its contract. Assumes nothing.
 use borrow.Author.Needs.{needs}
-use Rattle.clock.proofs.Stretched.{usual-in, inserted-in, deleted-in}
-use Rattle.clock.proofs.stretches.ending_in.Statement.{statement}
-use Rattle.clock.proofs.stretches.ending_in.Tie as tie
+use Rattle.many.proofs.Stretched.{usual-in, inserted-in, deleted-in}
+use Rattle.many.proofs.stretches.ending_in.Statement.{statement}
+use Rattle.many.proofs.stretches.ending_in.Tie as tie
 
 returns : tie.Need-returns
 returns c s last downs p =

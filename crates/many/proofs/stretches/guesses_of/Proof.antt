@@ -1,13 +1,13 @@
--- `clock::stretches::guesses_of` meets its contract. Assumes nothing.
+-- `many::stretches::guesses_of` meets its contract. Assumes nothing.
 use Prim.Native.Nat.{ℕ, _+_, _-_, _*_, _≤_}
 use native.Mathlib.Omega.{arith}
 use borrow.Author.Needs.{needs}
 use lib.ListN.{length, getD, length-set, length-replicate}
 use mathlib.Core.Path.{_≡_, _∙_}
-use Rattle.clock.specs.Private.{Guesses}
-use Rattle.clock.proofs.Preparing.{guesses-none, guesses-one}
-use Rattle.clock.proofs.stretches.guesses_of.Statement.{statement}
-use Rattle.clock.proofs.stretches.guesses_of.Tie as tie
+use Rattle.many.specs.Private.{Guesses}
+use Rattle.many.proofs.Preparing.{guesses-none, guesses-one}
+use Rattle.many.proofs.stretches.guesses_of.Statement.{statement}
+use Rattle.many.proofs.stretches.guesses_of.Tie as tie
 
 abbrev Inv-loop : tie.InvT-loop
 Inv-loop starts last guesses₀ end at₀ i₀ guesses at i = (length guesses ≡ 894) × (at ≤ 256) × (getD starts at 0 ≤ 128 * i) × Guesses starts guesses

@@ -1,9 +1,9 @@
--- `clock::stretches::is_of` meets its contract. Assumes nothing.
+-- `many::stretches::is_of` meets its contract. Assumes nothing.
 use native.Mathlib.Omega.{arith}
 use borrow.Author.Needs.{needs}
 use borrow.Author.Tests.{eq-eqb, ne-eqb}
-use Rattle.clock.proofs.stretches.is_of.Statement.{statement}
-use Rattle.clock.proofs.stretches.is_of.Tie as tie
+use Rattle.many.proofs.stretches.is_of.Statement.{statement}
+use Rattle.many.proofs.stretches.is_of.Tie as tie
 
 returns : tie.Need-returns
 returns c =

@@ -1,4 +1,4 @@
--- `clock::stretches::starts_of` meets its contract. Assumes nothing.
+-- `many::stretches::starts_of` meets its contract. Assumes nothing.
 use mathlib.Core.Path.{sym, ap, _∙_}
 use Prim.Native.Nat.{_-_, _≤_, _<_}
 use native.Mathlib.Omega.{arith}
@@ -7,10 +7,10 @@ use Rattle.calendar.specs.Calendar.{monthStart}
 use Rattle.calendar.proofs.Laws.{start-min}
 use Rattle.schedule.specs.WordLayout.{countWord, meant}
 use Rattle.schedule.proofs.Meant.{count-is, count-room}
-use Rattle.clock.proofs.LaidOut.{leap-meant, month-meant}
-use Rattle.clock.proofs.Preparing.{Starting, starting-none, starting-one, starting-all}
-use Rattle.clock.proofs.stretches.starts_of.Statement.{statement}
-use Rattle.clock.proofs.stretches.starts_of.Tie as tie
+use Rattle.questions.proofs.LaidOut.{leap-meant, month-meant}
+use Rattle.many.proofs.Preparing.{Starting, starting-none, starting-one, starting-all}
+use Rattle.many.proofs.stretches.starts_of.Statement.{statement}
+use Rattle.many.proofs.stretches.starts_of.Tie as tie
 
 abbrev Inv-loop : tie.InvT-loop
 Inv-loop words starts₀ count i₀ starts i = (count ≤ 256) × Starting (meant words) starts i

@@ -1,9 +1,9 @@
--- `clock::stretches::step` meets its contract. Assumes nothing.
+-- `many::stretches::step` meets its contract. Assumes nothing.
 use native.Mathlib.Omega.{arith}
 use borrow.Author.Needs.{needs}
-use Rattle.clock.proofs.Stretched.{walk-room}
-use Rattle.clock.proofs.stretches.step.Statement.{statement}
-use Rattle.clock.proofs.stretches.step.Tie as tie
+use Rattle.many.proofs.Stretched.{walk-room}
+use Rattle.many.proofs.stretches.step.Statement.{statement}
+use Rattle.many.proofs.stretches.step.Tie as tie
 
 returns : tie.Need-returns
 returns c =

@@ -1,16 +1,16 @@
--- `clock::stretches::tallies_of` meets its contract. Assumes nothing.
+-- `many::stretches::tallies_of` meets its contract. Assumes nothing.
 use mathlib.Core.Path.{sym, ap, _∙_}
 use Prim.Native.Nat.{_-_, _≤_}
 use native.Mathlib.Omega.{arith}
 use borrow.Author.Needs.{needs}
 use Rattle.schedule.specs.Extends.{sameSign}
 use Rattle.schedule.specs.WordLayout.{meant}
-use Rattle.clock.specs.Private.{count}
+use Rattle.clock.specs.Tally.{count}
 use Rattle.schedule.proofs.Meant.{count-is, count-room}
-use Rattle.clock.proofs.LaidOut.{leap-meant}
-use Rattle.clock.proofs.Preparing.{Tallying, tallying-none, tallying-one, tallying-all}
-use Rattle.clock.proofs.stretches.tallies_of.Statement.{statement}
-use Rattle.clock.proofs.stretches.tallies_of.Tie as tie
+use Rattle.questions.proofs.LaidOut.{leap-meant}
+use Rattle.many.proofs.Preparing.{Tallying, tallying-none, tallying-one, tallying-all}
+use Rattle.many.proofs.stretches.tallies_of.Statement.{statement}
+use Rattle.many.proofs.stretches.tallies_of.Tie as tie
 
 abbrev Inv-loop : tie.InvT-loop
 Inv-loop words sign tallies₀ count n₀ i₀ tallies n i = (count ≤ 256) × Tallying (meant words) sign tallies n i

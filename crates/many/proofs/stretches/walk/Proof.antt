@@ -1,11 +1,11 @@
--- `clock::stretches::walk` meets its contract. Assumes nothing.
+-- `many::stretches::walk` meets its contract. Assumes nothing.
 use Prim.Native.Nat.{_-_, _≤_}
 use native.Mathlib.Omega.{arith}
 use borrow.Author.Needs.{needs}
 use lib.ListN.{getD}
-use Rattle.clock.proofs.Stretched.{walk-room}
-use Rattle.clock.proofs.stretches.walk.Statement.{statement}
-use Rattle.clock.proofs.stretches.walk.Tie as tie
+use Rattle.many.proofs.Stretched.{walk-room}
+use Rattle.many.proofs.stretches.walk.Statement.{statement}
+use Rattle.many.proofs.stretches.walk.Tie as tie
 
 abbrev Inv-loop : tie.InvT-loop
 Inv-loop starts from day at₀ at = (at ≤ 256) × (getD starts at 0 ≤ day)

@@ -18,7 +18,7 @@ use Rattle.clock.specs.Question.{firstTai, taiToUtc}
 use Rattle.clock.specs.Answers.{utcAnswer}
 use Rattle.questions.specs.Said.{dayOn, DayFor, nearDay}
 use Rattle.questions.specs.Private.{onDay}
-use Rattle.clock.proofs.Tai.{length-least, deleted-few, last-inside, tai-next}
+use Rattle.clock.proofs.Tai.{length-least, last-inside, tai-next}
 use Rattle.clock.proofs.Checks.{pass, stop, passed, failed}
 use Rattle.questions.proofs.Told.{known-on-date}
 use Rattle.questions.proofs.Near.{utc-answer, near-from, near-begun, near-stays, near-steps, near-inside, utc-past}
