@@ -1,22 +1,18 @@
 -- What is handed over of whether a list extends another, and what a caller may rest on it.
 -- Assumes nothing.
-use mathlib.Core.Path.{_≡_, refl, sym, ap, ap₂, _∙_}
-use mathlib.Core.Bool.{Bool, true, false}
+use mathlib.Core.Path.{_≡_, refl, sym, ap, _∙_}
+use mathlib.Core.Bool.{Bool, true, false, _&&_, and-eq-true-iff}
 use mathlib.Core.Logic.{_↔_}
 use Prim.Native.Nat.{ℕ}
 use native.Mathlib.Omega.{arith}
 use Rattle.schedule.specs.Schedule.{Schedule, wellFormed}
 use Rattle.schedule.specs.Extends.{Extends, extends}
 use Rattle.schedule.proofs.Cases.{by-bool}
-use Rattle.schedule.proofs.Extension.{found, found-well, means, tests, fails}
+use Rattle.schedule.proofs.Extension.{means, tests, fails}
 use Rattle.clock.specs.Question.{given}
 use Rattle.clock.specs.Answers.{HandsValue}
 use Rattle.clock.proofs.Checks.{given-is}
 use Rattle.leap.specs.Calls.{yesOf, extension}
-
--- what was asked of the schedules that words stand for
-pub asked-of : (l s : Schedule) {l′ s′ : Schedule} {b : Bool} {v : ℕ} → wellFormed s ≡ true → l′ ≡ l → s′ ≡ s → v ≡ yesOf b → b ≡ found l′ s′ → v ≡ yesOf (extends l s)
-asked-of l s w p q e f = e ∙ ap yesOf (f ∙ (ap₂ found p q ∙ found-well l s w))
 
 module _ (longer shorter : Schedule) where
   pub longer-wrong : wellFormed longer ≡ false → HandsValue 0 (extension longer shorter) 11 0
@@ -29,9 +25,13 @@ module _ (longer shorter : Schedule) where
     shorter-wrong f = rw (w, f) (record { its-number = refl; its-value = refl })
 
     module _ (w′ : wellFormed shorter ≡ true) where
-      pub tested : (v : ℕ) → v ≡ yesOf (extends longer shorter) → HandsValue 0 (extension longer shorter) 0 v
+      tested : (v : ℕ) → v ≡ yesOf (extends longer shorter) → HandsValue 0 (extension longer shorter) 0 v
       unfolding extension
       tested v e = rw (w, w′) (record { its-number = refl; its-value = e })
+
+      -- the test of words, where they are lists, is that of what they mean
+      pub found-not : {b : Bool} → b ≡ (wellFormed longer && wellFormed shorter && extends longer shorter) → b ≡ false → HandsValue 0 (extension longer shorter) 0 0
+      found-not {b} e f = let x : b ≡ extends longer shorter = simp (w, w′) at e in tested 0 (sym (ap yesOf (sym x ∙ f)))
 
       yes : extension longer shorter ≡ given (yesOf (extends longer shorter))
       unfolding extension
@@ -52,3 +52,10 @@ module _ (longer shorter : Schedule) where
         λ e x. let z : _≡_ {A = ℕ} 1 0 = sym (ap yesOf (tests x)) ∙ given-is (sym yes ∙ e) in omega arith,
         λ n. yes ∙ rw (fails n),
       )
+
+-- where the test of words passes, both are lists
+pub found-so : (longer shorter : Schedule) {b : Bool} → b ≡ (wellFormed longer && wellFormed shorter && extends longer shorter) → b ≡ true → HandsValue 0 (extension longer shorter) 0 1
+found-so longer shorter e t =
+    let all = and-eq-true-iff (wellFormed longer && wellFormed shorter) (extends longer shorter) .0 (sym e ∙ t) in
+    let both = and-eq-true-iff (wellFormed longer) (wellFormed shorter) .0 (all .0) in
+    tested longer shorter (both .0) (both .1) 1 (sym (ap yesOf (all .1)))

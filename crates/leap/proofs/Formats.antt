@@ -2,7 +2,6 @@
 -- Assumes nothing.
 use mathlib.Core.Path.{_≡_, sym, _∙_}
 use mathlib.Core.Bool.{true}
-use lib.ListN.{length}
 use Rattle.schedule.specs.Schedule.{Schedule, roundedDown, leavesGap, wellFormed}
 use Rattle.schedule.proofs.Rounded.{rounded-well, extends-rounded}
 use Rattle.text.specs.Read.{readText}
@@ -16,8 +15,8 @@ use Rattle.clock.specs.Lists.{Kept}
 use Rattle.clock.proofs.Agree.{keeps}
 
 -- the text and the nybbles of one schedule read as the same schedule
-pub formats-agree : (s : Schedule) → length (s .leaps) ≡ 256 → wellFormed s ≡ true → leavesGap s ≡ true → readText (textOf s) ≡ readNybbles (nybblesOf s)
-formats-agree s full w g = text.reads-back-rounded s full w g ∙ sym (nybbles.reads-back-rounded s full w g)
+pub formats-agree : (s : Schedule) → wellFormed s ≡ true → leavesGap s ≡ true → readText (textOf s) ≡ readNybbles (nybblesOf s)
+formats-agree s w g = text.reads-back-rounded s w g ∙ sym (nybbles.reads-back-rounded s w g)
 
 -- rounding down never contradicts: what the list that was written answers, the schedule answers
 pub rounded-kept : (s : Schedule) → wellFormed s ≡ true → leavesGap s ≡ true → (q : Question) → Kept s (roundedDown s) q

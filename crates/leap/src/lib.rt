@@ -84,27 +84,22 @@ pub extern "C" fn leap_longer_text<'a>(first: &'a [u8], second: &'a [u8], part: 
     number
 }
 
-// 1 for yes and 0 for no.
-fn yes_of(b: bool) -> u8
-    ensures { λ r. ⌜ r ≡ yesOf b ⌝ }
-{
-    if b { 1 } else { 0 }
-}
-
 // Whether a list extends another.
 #[no_mangle]
 pub extern "C" fn leap_extends(longer: &[u32; 514], shorter: &[u32; 514], yes: &mut u8) -> u8
     ensures { λ n. ⌜ HandsValue 0 (extension (meant (now (longer .entry))) (meant (now (shorter .entry)))) n (now (yes .exit)) ⌝ }
 {
+    if schedule::extends(longer, shorter) {
+        *yes = 1;
+        return 0;
+    }
+    *yes = 0;
     if !schedule::is_list(longer) {
-        *yes = 0;
         return NOT_WELL_FORMED;
     }
     if !schedule::is_list(shorter) {
-        *yes = 0;
         return NOT_WELL_FORMED;
     }
-    *yes = yes_of(schedule::extends(longer, shorter));
     0
 }
 
