@@ -158,7 +158,7 @@ fn readings() {
 }
 
 // P10 to P12: smoothed time on the day of the leap.
-fn smoothed(pluwords: &[u32; 514], minuwords: &[u32; 514]) {
+fn smoothed(plus: &[u32; 514], minus: &[u32; 514]) {
     uts(b"P10", plus, 41498, 86_400_000_000);
     uts(b"P11", plus, 41498, 85_401_000_000);
     uts(b"P11", plus, 41498, 85_402_000_000);

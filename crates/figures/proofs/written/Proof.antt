@@ -6,10 +6,10 @@ use Rattle.figures.proofs.written.Statement.{statement}
 use Rattle.figures.proofs.written.Tie as tie
 
 abbrev Inv-loop : tie.InvT-loop
-Inv-loop name out n i₀ t8 i = i ≤ 64
+Inv-loop name words out n i₀ t8 i = i ≤ 64
 
 abbrev μ-loop : tie.MeasureT-loop
-μ-loop name out n i₀ t8 i = 64 - i
+μ-loop name words out n i₀ t8 i = 64 - i
 
 pub written-spec : {M : Type 1} → statement M
 written-spec =
