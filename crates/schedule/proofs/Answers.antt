@@ -73,10 +73,18 @@ module _ (s : Schedule) (bytes out : List ℕ) where
   pub short : wellFormed s ≡ true → leavesGap s ≡ true → (n : ℕ) → n ≡ length bytes → length out < n → Answer s bytes out (record { number = 7; count = 0 }) out
   short w g n e h = formed w g (no-room bytes out n e h)
 
-  -- another number is the refusal
+  pub no-gap : wellFormed s ≡ true → leavesGap s ≡ false → Answer s bytes out (record { number = 17; count = 0 }) out
+  unfolding writing written
+  no-gap w g = (simp (w, g), simp (w, g))
+
+  pub wrong : wellFormed s ≡ false → Answer s bytes out (record { number = 11; count = 0 }) out
+  unfolding writing written
+  wrong w = (simp w, simp w)
+
+  -- as the code asks: a number other than 0 is the refusal
   pub refused : (unwritable s ≡ 0 → ⊥) → Answer s bytes out (unwritten (unwritable s)) out
-  unfolding writing written unwritable
+  unfolding unwritable
   refused n =
       by-bool (wellFormed s)
-      (λ w. by-bool (leavesGap s) (λ g. absurd (n (simp (w, g)))) (λ g. (simp (w, g), simp (w, g))))
-      (λ w. (simp w, simp w))
+      (λ w. by-bool (leavesGap s) (λ g. absurd (n (simp (w, g)))) (λ g. simp (w, g) (no-gap w g)))
+      (λ w. simp w (wrong w))
