@@ -1,6 +1,5 @@
 -- The clock's answers in bytes, by question. Assumes nothing.
 use mathlib.Core.Path.{_≡_, refl}
-use mathlib.Core.List.{List}
 use Prim.Native.Nat.{ℕ}
 use lib.IntN.{ℤ}
 use Rattle.format.specs.Decimal.{decimal, signed}

@@ -1,4 +1,5 @@
--- TAI and UTS are the paper's formulas in the integers, with nothing cut off; and in an inserted second DTAI is still the old one.
+-- DTAI is 10 at first and changes by the leaps alone; TAI and UTS are the paper's formulas in the integers, with nothing cut off; and in an
+-- inserted second DTAI is still the old one.
 -- Assumes nothing.
 use mathlib.Core.Bool.{Bool, true, false, cond}
 use mathlib.Core.Path.{_≡_, refl, sym, ap, ap₂, _∙_}
@@ -6,7 +7,7 @@ use Prim.Native.Nat.{ℕ, suc, _+_, _-_, _*_, _≤_, _<_}
 use native.Mathlib.Decide.{decLt}
 use native.Mathlib.Omega.{arith}
 use lib.Dec.{ltb}
-use lib.IntN.{ℤ, pos, negsuc, subℕ, negℤ-negℤ, _+ℤ_, _-ℤ_, _*ℤ_}
+use lib.IntN.{ℤ, pos, negsuc, subℕ, negℤ-negℤ, +ℤ-idr, +ℤ-negℤ-cancel, _+ℤ_, _-ℤ_, _*ℤ_}
 use borrow.Author.Tests.{lt-ltb, le-ltb}
 use Rattle.schedule.specs.declared.Sign.the-variants.{Positive, Negative}
 use Rattle.schedule.specs.Schedule.{Schedule, wellFormed}
@@ -20,7 +21,7 @@ use Rattle.clock.specs.Question.{given, utcToTai}
 use Rattle.clock.specs.Tally.{tally}
 use Rattle.clock.proofs.Tallied.{plus-negative, plus-times, dtai-tallied, days-exact, tai-tallied}
 use Rattle.clock.proofs.Leaps.{part}
-use Rattle.clock.proofs.Tai.{length-least, deleted-few, tally-after}
+use Rattle.clock.proofs.Tai.{length-least, deleted-few, tally-first, tally-after}
 use Rattle.clock.proofs.Checks.{on-utc}
 
 -- (a + 1) - b is one more than a - b
@@ -35,19 +36,16 @@ minus-more a b =
       | no l ↦ rw (le-ltb (a + 1) b (omega arith), le-ltb a b (omega arith)) (ap pos (omega arith))
     ]
 
--- only a day with an inserted second has a microsecond 86,400,000,000
-inserted-after : (s : Schedule) (day t : ℕ) → wellFormed s ≡ true → microsPerDay ≤ t → (w : Ending) → t < dayLength w
-    → tally Positive (s .leaps) (day + 1) ≡ tally Positive (s .leaps) day + part Positive w
-    → tally Negative (s .leaps) (day + 1) ≡ tally Negative (s .leaps) day + part Negative w → dtai s (day + 1) ≡ dtai s day +ℤ pos 1
-inserted-after s day t v i Ordinary h p q = absurd (omega arith)
-inserted-after s day t v i Inserted h p q =
-    let up : firstDtai + tally Positive (s .leaps) (day + 1) ≡ firstDtai + tally Positive (s .leaps) day + 1 = omega arith in
-    let down : tally Negative (s .leaps) (day + 1) ≡ tally Negative (s .leaps) day = omega arith in
-    dtai-tallied s (day + 1)
-    ∙ ap₂ subℕ up down
-    ∙ minus-more (firstDtai + tally Positive (s .leaps) day) (tally Negative (s .leaps) day)
-    ∙ ap (λ z. z +ℤ pos 1) (sym (dtai-tallied s day))
-inserted-after s day t v i Deleted h p q = absurd (omega arith)
+-- a - (b + 1) is one less than a - b
+both-more : (a b : ℕ) → subℕ (a + 1) (b + 1) ≡ subℕ a b
+both-more a b =
+    elim (decLt a b) [
+      | yes l ↦ rw (lt-ltb (a + 1) (b + 1) (omega arith), lt-ltb a b l) (ap negsuc (omega arith))
+      | no l ↦ rw (le-ltb (a + 1) (b + 1) (omega arith), le-ltb a b (omega arith)) (ap pos (omega arith))
+    ]
+
+minus-less : (a b : ℕ) → subℕ a (b + 1) ≡ subℕ a b -ℤ pos 1
+minus-less a b = sym (ap (λ z. z -ℤ pos 1) (sym (both-more a b) ∙ minus-more a (b + 1)) ∙ +ℤ-negℤ-cancel (subℕ a (b + 1)) (pos 1))
 
 -- w, which is +1, -1 or 0 for the leap ending the day
 abbrev pub leapSign : Ending → ℤ
@@ -55,10 +53,48 @@ leapSign Ordinary = pos 0
 leapSign Inserted = pos 1
 leapSign Deleted = negsuc 0
 
+-- what a day's end makes of DTAI, by the tallies of the next day
+next-by : (s : Schedule) (day : ℕ) (w : Ending) → tally Positive (s .leaps) (day + 1) ≡ tally Positive (s .leaps) day + part Positive w
+    → tally Negative (s .leaps) (day + 1) ≡ tally Negative (s .leaps) day + part Negative w → dtai s (day + 1) ≡ dtai s day +ℤ leapSign w
+next-by s day Ordinary p q =
+    let up : firstDtai + tally Positive (s .leaps) (day + 1) ≡ firstDtai + tally Positive (s .leaps) day = omega arith in
+    let down : tally Negative (s .leaps) (day + 1) ≡ tally Negative (s .leaps) day = omega arith in
+    dtai-tallied s (day + 1) ∙ ap₂ subℕ up down ∙ sym (dtai-tallied s day) ∙ sym (+ℤ-idr (dtai s day))
+next-by s day Inserted p q =
+    let up : firstDtai + tally Positive (s .leaps) (day + 1) ≡ firstDtai + tally Positive (s .leaps) day + 1 = omega arith in
+    let down : tally Negative (s .leaps) (day + 1) ≡ tally Negative (s .leaps) day = omega arith in
+    dtai-tallied s (day + 1)
+    ∙ ap₂ subℕ up down
+    ∙ minus-more (firstDtai + tally Positive (s .leaps) day) (tally Negative (s .leaps) day)
+    ∙ ap (λ z. z +ℤ pos 1) (sym (dtai-tallied s day))
+next-by s day Deleted p q =
+    let up : firstDtai + tally Positive (s .leaps) (day + 1) ≡ firstDtai + tally Positive (s .leaps) day = omega arith in
+    let down : tally Negative (s .leaps) (day + 1) ≡ tally Negative (s .leaps) day + 1 = omega arith in
+    dtai-tallied s (day + 1)
+    ∙ ap₂ subℕ up down
+    ∙ minus-less (firstDtai + tally Positive (s .leaps) day) (tally Negative (s .leaps) day)
+    ∙ ap (λ z. z -ℤ pos 1) (sym (dtai-tallied s day))
+
 minus-exact : (w : Ending) (a b : ℕ) → b ≤ a → pos (minus w a b) ≡ pos a -ℤ leapSign w *ℤ pos b
 minus-exact Ordinary a b h = sym (plus-negative a (0 * b) (omega arith) ∙ ap pos (omega arith))
 minus-exact Inserted a b h = sym (plus-negative a (1 * b) (omega arith) ∙ ap pos (omega arith))
 minus-exact Deleted a b h = rw (negℤ-negℤ (pos (1 * b))) (ap pos (omega arith))
+
+-- DTAI is 10 on MJD 41317
+pub ten-in-1972 : (s : Schedule) → wellFormed s ≡ true → dtai s 41_317 ≡ pos 10
+ten-in-1972 s w =
+    let up : firstDtai + tally Positive (s .leaps) 41_317 ≡ 10 = omega (arith, tally-first s w Positive) in
+    dtai-tallied s 41_317 ∙ ap₂ subℕ up (tally-first s w Negative)
+
+-- from a day to the next it changes by the leap that ends the day, 1 or -1, and by nothing else
+pub dtai-next : (s : Schedule) → wellFormed s ≡ true → (day : ℕ) → dtai s (day + 1) ≡ dtai s day +ℤ leapSign (ending s day)
+dtai-next s w day = next-by s day (ending s day) (tally-after s w Positive day) (tally-after s w Negative day)
+
+-- only a day with an inserted second has a microsecond 86,400,000,000
+is-inserted : (w : Ending) (t : ℕ) → microsPerDay ≤ t → t < dayLength w → leapSign w ≡ pos 1
+is-inserted Ordinary t i h = absurd (omega arith)
+is-inserted Inserted t i h = refl
+is-inserted Deleted t i h = absurd (omega arith)
 
 -- from MJD 41317 on under a well-formed schedule, TAI is 86,400,000,000 x (MJD - 41317) + UTC microseconds + 1,000,000 x DTAI
 pub tai-exact : (s : Schedule) (day t : ℕ) → wellFormed s ≡ true → 41_317 ≤ day
@@ -86,5 +122,5 @@ pub old-dtai-in-leap : (s : Schedule) (day t x : ℕ) → utcToTai s day t ≡ g
 old-dtai-in-leap s day t x h i =
     let k = on-utc s taiCutoff day t (tai s day t) x h in (
       ap pos (sym (k .is)) ∙ tai-exact s day t (k .well) (k .from),
-      inserted-after s day t (k .well) i (ending s day) (k .below) (tally-after s (k .well) Positive day) (tally-after s (k .well) Negative day),
+      dtai-next s (k .well) day ∙ ap (λ z. dtai s day +ℤ z) (is-inserted (ending s day) t i (k .below)),
     )

@@ -53,7 +53,7 @@ tally-length sign (l ∷ ls) day =
 
 module _ (s : Schedule) (w : wellFormed s ≡ true) where
   -- the tallies of the first day, and of the next day
-  tally-first : (sign : Sign) → tally sign (s .leaps) firstDay ≡ 0
+  pub tally-first : (sign : Sign) → tally sign (s .leaps) firstDay ≡ 0
   tally-first sign = tally-none sign 0 (s .leaps) (s .expiry) firstDay (parts s w .gaps) (omega (arith, start-zero))
 
   pub tally-after : (sign : Sign) (day : ℕ) → tally sign (s .leaps) (day + 1) ≡ tally sign (s .leaps) day + part sign (ending s day)

@@ -12,7 +12,6 @@ ghost use Rattle.nybbles.specs.Write.{nybblesOf};
 ghost use Rattle.compare.specs.Compare.{comparing, comparedInto};
 ghost use Rattle.compare.specs.Longer.{chosen, HandsBack};
 ghost use mathlib.Core.List.{map, zipWith};
-ghost use mathlib.Core.Path.{_≡_};
 ghost use lib.IntN.{pos};
 ghost use Rattle.clock.specs.Answers.{HandsValue, HandsUtc};
 ghost use Rattle.many.specs.Many.{HandsMany, HandsManyUtc};
@@ -21,7 +20,7 @@ ghost use Rattle.schedule.specs.WordLayout.{meant};
 ghost use Rattle.schedule.specs.Answers.{HandsReading};
 ghost use Rattle.schedule.specs.Answers.{fitting, fitted};
 ghost use Rattle.replay.specs.Replay.{unended};
-ghost use Rattle.leap.specs.Calls.{HandsBytes, HandsWriting, HandsReplay, yesOf, extension};
+ghost use Rattle.leap.specs.Calls.{HandsBytes, HandsWriting, HandsReplay, extension};
 
 // Reads a compact text list.
 #[no_mangle]

@@ -8,7 +8,8 @@ use native.Mathlib.Numerals.{add-one}
 use native.Mathlib.Omega.{arith}
 use lib.ListN.{length, getD, take, drop, set, length-append, length-drop, length-take, length-set, length-map, List·getD-append, List·getD-map}
 use lib.Seq.{set-at, take-suc, drop-cons, append-snoc, getD-append-add, getD-drop, getD-take}
-use Rattle.many.specs.Many.{overwrite}
+use Rattle.clock.specs.Question.{Answer, Utc, number, orZero}
+use Rattle.many.specs.Many.{overwrite, HandsMany, HandsManyUtc, dayOrZero, microsOrZero}
 use Rattle.many.specs.Private.{Overwritten}
 
 -- ---- one element after the other
@@ -103,3 +104,26 @@ each-answered part answers n old i d e h l =
     let new = map part (take n answers) in
     let below : i < length (map part (take n answers)) = omega (arith, length-map (take n answers) part, length-take n answers) in
     each-overwritten new old i d below ∙ (other-default new i d (part e) below ∙ (each-of-one part (take n answers) i e ∙ ap part (getD-take n answers i e h)))
+
+-- what a caller finds after a call for many: at every place that the answers and both arrays have, the number and the value of its own answer
+pub handed-each : {A : Type 0} {none : A} {answers : List (Answer A)} {numbers : List ℕ} {values : List A} {result : ℕ} {numbers′ : List ℕ} {values′ : List A}
+    → HandsMany none answers numbers values result numbers′ values′ → (i : ℕ) (e : Answer A) (d : A) → i < length answers → i < length numbers → i < length values
+    → (getD numbers′ i 0 ≡ number (getD answers i e)) × (getD values′ i d ≡ orZero none (getD answers i e))
+handed-each {none = none} {answers = answers} {numbers = numbers} {values = values} {result = result} h i e d a b c =
+    let below : i < result = omega (arith, h .its-count) in
+    let within : result ≤ length answers = omega (arith, h .its-count) in (
+      ap (λ (xs : List ℕ). getD xs i 0) (h .its-numbers) ∙ each-answered number answers result numbers i 0 e below within,
+      ap (λ xs. getD xs i d) (h .its-values) ∙ each-answered (orZero none) answers result values i d e below within,
+    )
+
+-- and of TAI to UTC the day and its microseconds
+pub handed-each-utc : {answers : List (Answer Utc)} {numbers days micros : List ℕ} {result : ℕ} {numbers′ days′ micros′ : List ℕ}
+    → HandsManyUtc answers numbers days micros result numbers′ days′ micros′ → (i : ℕ) (e : Answer Utc) → i < length answers → i < length numbers → i < length days → i < length micros
+    → (getD numbers′ i 0 ≡ number (getD answers i e)) × (getD days′ i 0 ≡ dayOrZero (getD answers i e)) × (getD micros′ i 0 ≡ microsOrZero (getD answers i e))
+handed-each-utc {answers} {numbers} {days} {micros} {result} h i e a b c f =
+    let below : i < result = omega (arith, h .its-count) in
+    let within : result ≤ length answers = omega (arith, h .its-count) in (
+      ap (λ (xs : List ℕ). getD xs i 0) (h .its-numbers) ∙ each-answered number answers result numbers i 0 e below within,
+      ap (λ (xs : List ℕ). getD xs i 0) (h .its-days) ∙ each-answered dayOrZero answers result days i 0 e below within,
+      ap (λ (xs : List ℕ). getD xs i 0) (h .its-micros) ∙ each-answered microsOrZero answers result micros i 0 e below within,
+    )

@@ -8,7 +8,7 @@ use native.Mathlib.Numerals.{add-one}
 use native.Mathlib.Omega.{arith}
 use lib.Dec.{ltb}
 use lib.ListN.{length, getD, take, drop, set, length-map, List·getD-map}
-use lib.Seq.{sets, drop-cons, length-take-le, getD-take}
+use lib.Seq.{drop-cons, length-take-le, getD-take}
 use borrow.Author.Tests.{lt-ltb, le-ltb}
 use Rattle.schedule.proofs.Cases.{by-bool}
 use Rattle.nybbles.specs.Write.{isSingle}

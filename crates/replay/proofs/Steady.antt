@@ -14,7 +14,7 @@ use Rattle.schedule.proofs.Gaps.{blank-refused}
 use Rattle.schedule.proofs.Meant.{blank-stands, words-stand}
 use Rattle.format.proofs.Cases.{by-bool}
 use Rattle.text.specs.Read.{readText}
-use Rattle.text.proofs.Sound.{read-formed, accepted-well-formed}
+use Rattle.text.proofs.Sound.{accepted-well-formed}
 use Rattle.clock.specs.Question.{Answer, given, refused, utcToUts, UTC-to-UTS}
 use Rattle.clock.specs.Known.{utsCutoff}
 use Rattle.clock.specs.Days.{ending}

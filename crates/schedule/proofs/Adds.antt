@@ -1,6 +1,6 @@
 -- A well-formed schedule is made by adding its leaps to the blank one.
 -- Assumes nothing.
-use mathlib.Core.Path.{_≡_, refl, sym, ap, _∙_}
+use mathlib.Core.Path.{_≡_, _∙_}
 use mathlib.Core.List.{List, [], _∷_, _++_, append-assoc, append-nil}
 use Rattle.schedule.specs.Schedule.{Leap, Schedule, blankSchedule}
 use Rattle.schedule.specs.Answers.{withLeap, accepted}

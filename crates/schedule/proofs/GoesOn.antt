@@ -11,7 +11,7 @@ use native.Mathlib.Decide.{decLt}
 use native.Mathlib.Omega.{arith}
 use lib.ListN.{length, getD, take, drop, length-append, take-append-drop, drop-of-length-le}
 use lib.Seq.{getD-take, getD-append-add, take-at, length-take-le, ext-getD}
-use Rattle.schedule.specs.Schedule.{Leap, Schedule, lastMonth, monthStart, noLeap, isExpired, gapsFit, wellFormed}
+use Rattle.schedule.specs.Schedule.{Leap, lastMonth, monthStart, noLeap, isExpired, gapsFit, wellFormed}
 use Rattle.schedule.specs.WordLayout.{countWord, expiryWord, monthWord, signOf, meant, wordOfSign}
 use Rattle.schedule.specs.Extends.{Extends, extends}
 use Rattle.schedule.proofs.Cases.{by-bool}

@@ -1,23 +1,22 @@
 -- The words of a schedule, place by place, and the schedule that words mean.
 -- Assumes nothing.
 use mathlib.Core.Path.{_≡_, refl, sym, ap, _∙_}
-use mathlib.Core.Bool.{true, false, and-eq-true-iff, true≢false, cond}
+use mathlib.Core.Bool.{true, and-eq-true-iff}
 use mathlib.Core.List.{List, [], _∷_, _++_}
-use Prim.Native.Nat.{ℕ, zero, suc, _+_, _-_, _*_, _/_, _%_, _≤_, _<_}
+use Prim.Native.Nat.{ℕ, zero, suc, _+_, _-_, _*_, _≤_, _<_}
 use native.Mathlib.Nat.{not-suc-le-zero, le-of-suc-le-suc}
 use native.Mathlib.Decide.{decLt}
 use native.Mathlib.Omega.{arith}
 use lib.Dec.{eqb}
-use lib.ListN.{length, getD, take, drop, replicate, length-append, length-replicate, length-take}
-use lib.Seq.{getD-take, getD-drop, getD-append-add, ext-getD}
+use lib.ListN.{length, getD, take, drop, length-append, length-replicate, length-take}
+use lib.Seq.{getD-take, getD-drop, getD-append-add}
 use borrow.Author.Tests.{eqb-true, eq-eqb}
 use Rattle.schedule.specs.declared.Sign.{Sign}
 use Rattle.schedule.specs.declared.Sign.the-variants.{Positive, Negative}
-use Rattle.schedule.specs.Schedule.{Leap, Schedule, monthStart, endDay, noLeap, blankSchedule, gapsFit, wellFormed}
-use Rattle.schedule.specs.WordLayout.{countWord, expiryWord, monthWord, signWord, signOf, leapBy, leapAt, leapsIn, laidOut, sameWords, meant, wordOfSign, leapWords, zeroes, wordsOf}
+use Rattle.schedule.specs.Schedule.{Leap, Schedule, monthStart, endDay, noLeap, gapsFit, wellFormed}
+use Rattle.schedule.specs.WordLayout.{countWord, monthWord, signWord, signOf, leapBy, leapAt, leapsIn, laidOut, sameWords, wordOfSign, leapWords, zeroes, wordsOf}
 use Rattle.calendar.proofs.Laws.{start-last, start-lt}
-use Rattle.schedule.proofs.Cases.{by-bool}
-use Rattle.schedule.proofs.Gaps.{later, before-end, parts, blank-refused}
+use Rattle.schedule.proofs.Gaps.{later, before-end, parts}
 
 -- a month that starts within the calendar
 pub within : (m : ℕ) → monthStart m ≤ endDay → m ≤ 2400
@@ -146,6 +145,29 @@ module _ (s : Schedule) (room : length (s .leaps) ≤ 256) where
         words-length (s .leaps),
         length-replicate {A = ℕ} (512 - 2 * length (s .leaps)) 0,
       )
+
+-- the words of a schedule in numbers: word 2 i is the month of leap i, and word 2 i + 1 its sign, 0 if it is positive and 1 if it is negative; after
+-- the leaps 0 up to word 511, so that a place not in use holds month 0 and a positive sign; word 512 is the count, and word 513 the expiry day
+pub record Words (s : Schedule) (words : List ℕ) : Type 0 where
+  pub all : length words ≡ 514
+  pub months : (i : ℕ) → i < length (s .leaps) → getD words (2 * i) 0 ≡ getD (s .leaps) i noLeap .month
+  pub positive : (i : ℕ) → i < length (s .leaps) → getD (s .leaps) i noLeap .sign ≡ Positive → getD words (2 * i + 1) 0 ≡ 0
+  pub negative : (i : ℕ) → i < length (s .leaps) → getD (s .leaps) i noLeap .sign ≡ Negative → getD words (2 * i + 1) 0 ≡ 1
+  pub unused : (k : ℕ) → 2 * length (s .leaps) ≤ k → k < 512 → getD words k 0 ≡ 0
+  pub count : getD words 512 0 ≡ length (s .leaps)
+  pub expiry : getD words 513 0 ≡ s .expiry
+
+pub in-words : (s : Schedule) → length (s .leaps) ≤ 256 → Words s (wordsOf s)
+in-words s room =
+    record {
+      all = all-words s room;
+      months = month-of-words s room;
+      positive = λ i h e. sign-of-words s room i h ∙ ap wordOfSign e;
+      negative = λ i h e. sign-of-words s room i h ∙ ap wordOfSign e;
+      unused = unused-words s room;
+      count = count-of-words s room;
+      expiry = expiry-of-words s room;
+    }
 
 -- ---- the leaps that words lay out
 

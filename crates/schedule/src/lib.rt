@@ -3,8 +3,6 @@
 ghost use mathlib.Core.Path.{_≡_};
 ghost use mathlib.Core.Bool.{true, _&&_};
 ghost use Prim.Native.Nat.{_*_, _≤_, min};
-ghost use lib.Dec.{eqb};
-ghost use lib.ListN.{take};
 ghost use Rattle.schedule.specs.Schedule.{maxLeaps, lastMonth, monthStart, monthOf, isExpired, lastLeap, wellFormed};
 ghost use Rattle.schedule.specs.Extends.{extends};
 ghost use Rattle.schedule.specs.WordLayout.{countWord, expiryWord, monthWord, signWord, signOf, meant, wordOfSign};
@@ -74,9 +72,10 @@ pub fn sign_of(word: u32) -> Sign
     ensures { λ r. ⌜ r ≡ signOf word ⌝ }
 {
     if word == 0 {
-        return Sign::Positive;
+        Sign::Positive
+    } else {
+        Sign::Negative
     }
-    Sign::Negative
 }
 
 // How many leaps the words claim.
@@ -101,7 +100,7 @@ pub fn sign_at(words: &[u32; 514], i: usize) -> Sign
     ensures { λ r. ⌜ r ≡ signOf (signWord (now (words .entry)) i) ⌝ }
 {
     if MAX_LEAPS <= i {
-        return Sign::Positive;
+        return sign_of(0);
     }
     sign_of(words[2 * i + 1])
 }

@@ -15,7 +15,7 @@ use Rattle.clock.specs.declared.DtaiAnswer.{DtaiAnswer}
 use Rattle.clock.specs.declared.DtaiAnswer.the-variants.{Given}
 use Rattle.clock.specs.Days.{firstDtai, dtai}
 use Rattle.clock.specs.Known.{lastDay}
-use Rattle.clock.specs.Question.{dtaiOn, given}
+use Rattle.clock.specs.Question.{dtaiOn}
 use Rattle.clock.specs.Answers.{dtaiAnswer}
 use Rattle.clock.specs.Tally.{tally}
 use Rattle.clock.proofs.Tallied.{dtai-tallied}

@@ -1,6 +1,5 @@
 -- `leapsec::put_arguments` is safe and ends. The line keeps its length, and what is put stays within it. Assumes nothing.
 use borrow.Author.Needs.{needs}
-use native.Mathlib.Omega.{arith}
 use Prim.Native.Nat.{_-_, _≤_}
 use mathlib.Core.Path.{_≡_}
 use lib.ListN.{length}

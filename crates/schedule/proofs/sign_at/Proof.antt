@@ -9,21 +9,23 @@ use Rattle.schedule.proofs.sign_at.Tie as tie
 
 returns : tie.Need-returns
 returns c =
-    let args = c .before .args in
-    let if1 = c .if1 in
-    sym (ap signOf (sign-past (args .words .now) (args .i) (if1 .taken)))
+    let sign-of = c .sign-of in
+    let args = c .before .before .args in
+    let if1 = c .before .if1 in
+    sign-of .ensures ∙ sym (ap signOf (sign-past (args .words .now) (args .i) (if1 .taken)))
 
 returns-2 : tie.Need-returns-2
 returns-2 c =
-    let sign-of = c .sign-of in
+    let sign-of2 = c .sign-of2 in
     let args = c .before .before .before .args in
     let if1 = c .before .before .if1 in
-    sign-of .ensures ∙ ap signOf (sym (sign-in-place (args .words .now) (args .i) (omega (arith, if1 .left))))
+    sign-of2 .ensures ∙ ap signOf (sym (sign-in-place (args .words .now) (args .i) (omega (arith, if1 .left))))
 
 pub sign-at-spec : {M : Type 1} → statement M
 sign-at-spec =
     tie.close
     (tie.spec
+    (λ c κs. search needs)
     returns
     (λ c. search needs)
     (λ c. search needs)

@@ -1,10 +1,8 @@
 -- `command::lists::read_hex` meets its contract: 4,096 bytes are room enough for a line of hex. Assumes nothing.
 use borrow.Author.Needs.{needs}
 use native.Mathlib.Omega.{arith}
-use mathlib.Core.Path.{_≡_, sym, ap, _∙_}
-use Prim.Native.Nat.{_≤_}
+use mathlib.Core.Path.{sym, ap, _∙_}
 use lib.ListN.{length}
-use Rattle.format.specs.Hex.{unhex}
 use Rattle.format.proofs.Putting.{whole, same-long}
 use Rattle.command.proofs.Unhexed.{unhex-length}
 use Rattle.command.proofs.lists.read_hex.Statement.{statement}

@@ -1,7 +1,6 @@
 -- `leapsec::lines::answer` is safe and ends: the turns that are left fall. The buffer keeps its length, and what is held lies within it.
 -- Assumes nothing.
 use borrow.Author.Needs.{needs}
-use native.Mathlib.Omega.{arith}
 use Prim.Native.Nat.{_≤_}
 use mathlib.Core.Path.{_≡_}
 use lib.ListN.{length}

@@ -1,8 +1,7 @@
 -- `leapsec::lines::answer_complete` is safe and ends: each turn uses bytes of the input. Assumes nothing.
 use borrow.Author.Needs.{needs}
-use native.Mathlib.Omega.{arith}
 use Prim.Native.Nat.{_-_, _≤_}
-use lib.ListN.{length, length-drop}
+use lib.ListN.{length}
 use Rattle.leapsec.proofs.lines.answer_complete.Statement.{statement}
 use Rattle.leapsec.proofs.lines.answer_complete.Tie as tie
 

@@ -1,10 +1,9 @@
 -- `leapsec::lines::hold` is safe and ends: it stores below the bytes that are held, of which there are no more than come from `from` on.
 -- Assumes nothing.
 use borrow.Author.Needs.{needs}
-use native.Mathlib.Omega.{arith}
 use Prim.Native.Nat.{_+_, _-_, _≤_}
-use mathlib.Core.Path.{_≡_, _∙_}
-use lib.ListN.{length, length-set}
+use mathlib.Core.Path.{_≡_}
+use lib.ListN.{length}
 use Rattle.leapsec.proofs.lines.hold.Statement.{statement}
 use Rattle.leapsec.proofs.lines.hold.Tie as tie
 

@@ -1,6 +1,6 @@
 -- `schedule::check::expiry_misfit` meets its contract: by bounds of the months' starts, or by the number of the expiry day's month.
 -- Assumes nothing.
-use mathlib.Core.Path.{_≡_, sym, _∙_}
+use mathlib.Core.Path.{sym, _∙_}
 use mathlib.Core.Bool.{true, false}
 use native.Mathlib.Omega.{arith}
 use borrow.Author.Needs.{needs}
