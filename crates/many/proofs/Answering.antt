@@ -13,7 +13,7 @@ use Rattle.schedule.specs.Schedule.{Schedule, wellFormed}
 use Rattle.schedule.specs.WordLayout.{expiryWord, meant}
 use Rattle.clock.specs.Question.{Answer, refused, Utc, number, orZero}
 use Rattle.clock.specs.Answers.{HandsValue, HandsUtc}
-use Rattle.many.specs.Private.{Starts, Fenced, Tallies, Guesses, Prepared, Ready, Overwritten, Fills, FillsUtc}
+use Rattle.many.specs.Private.{Starts, Fenced, Tallies, Guesses, Prepared, Ready, Overwritten}
 use Rattle.many.specs.Many.{overwrite, dayOrZero, microsOrZero, HandsMany, HandsManyUtc}
 use Rattle.many.proofs.Preparing.{prepared-list, ready-list}
 use Rattle.many.proofs.Overwriting.{none-written, one-written, part-written, At, at-one, at-two, zip-length}
@@ -46,6 +46,16 @@ module _ {A : Type 0} {v : A} {n : ℕ} {old : List A} where
     repeated-all h = let e : i ≡ n = omega (arith, p .place) in rw e at (p .repeated)
 
 -- ---- a loop that answers the first n questions, at question i
+
+-- the first n answers stand in their arrays
+pub record Fills {A : Type 0} (none : A) (answers : List (Answer A)) (n : ℕ) (numbers : List ℕ) (values : List A) (numbers′ : List ℕ) (values′ : List A) : Type 0 where
+  pub told : Overwritten (map number (take n answers)) numbers numbers′
+  pub valued : Overwritten (map (orZero none) (take n answers)) values values′
+
+pub record FillsUtc (answers : List (Answer Utc)) (n : ℕ) (numbers days micros numbers′ days′ micros′ : List ℕ) : Type 0 where
+  pub told : Overwritten (map number (take n answers)) numbers numbers′
+  pub dated : Overwritten (map dayOrZero (take n answers)) days days′
+  pub timed : Overwritten (map microsOrZero (take n answers)) micros micros′
 
 -- so many elements of 8 bytes fit the memory
 abbrev pub Few : ℕ → Type 0
@@ -86,8 +96,8 @@ module _ {A : Type 0} {none : A} {answers : List (Answer A)} {n : ℕ} {numbers�
 
 -- about the elements of one array: the first turn and each next one
 module _ {A : Type 0} {none : A} (ask : ℕ → Answer A) (xs : List ℕ) {n : ℕ} {numbers₀ : List ℕ} {values₀ : List A} where
-  pub start-one : Few (length xs) → {W : Type 0} → W × (n ≤ length xs) × (n ≤ length numbers₀) × (n ≤ length values₀) → Filling none (map ask xs) n numbers₀ values₀ numbers₀ values₀ 0
-  start-one f h = start (omega (arith, h .1)) (omega (arith, length-map xs ask, h .1)) (h .2) (h .3)
+  pub start-one : Few (length xs) → n ≡ min (length xs) (min (length numbers₀) (length values₀)) → Filling none (map ask xs) n numbers₀ values₀ numbers₀ values₀ 0
+  start-one f e = start (omega arith) (omega (arith, length-map xs ask)) (omega arith) (omega arith)
 
   pub turn-one : {numbers : List ℕ} {values : List A} {i : ℕ} → Filling none (map ask xs) n numbers₀ values₀ numbers values i → i < n → {a : ℕ} {v : A} → HandsValue none (ask (getD xs i 0)) a v
       → Filling none (map ask xs) n numbers₀ values₀ (set numbers i a) (set values i v) (i + 1)
@@ -95,8 +105,8 @@ module _ {A : Type 0} {none : A} (ask : ℕ → Answer A) (xs : List ℕ) {n : �
 
 -- and about those of two
 module _ {A : Type 0} {none : A} (ask : ℕ → ℕ → Answer A) (xs ys : List ℕ) {n : ℕ} {numbers₀ : List ℕ} {values₀ : List A} where
-  pub start-two : Few (length xs) → {W : Type 0} → W × (n ≤ length xs) × (n ≤ length ys) × (n ≤ length numbers₀) × (n ≤ length values₀) → Filling none (zipWith ask xs ys) n numbers₀ values₀ numbers₀ values₀ 0
-  start-two f h = start (omega (arith, h .1)) (omega (arith, zip-length ask xs ys, h .1, h .2)) (h .3) (h .4)
+  pub start-two : Few (length xs) → n ≡ min (min (length xs) (length ys)) (min (length numbers₀) (length values₀)) → Filling none (zipWith ask xs ys) n numbers₀ values₀ numbers₀ values₀ 0
+  start-two f e = start (omega arith) (omega (arith, zip-length ask xs ys)) (omega arith) (omega arith)
 
   pub turn-two : {numbers : List ℕ} {values : List A} {i : ℕ} → Filling none (zipWith ask xs ys) n numbers₀ values₀ numbers values i → i < n → {a : ℕ} {v : A} → HandsValue none (ask (getD xs i 0) (getD ys i 0)) a v
       → Filling none (zipWith ask xs ys) n numbers₀ values₀ (set numbers i a) (set values i v) (i + 1)
@@ -113,15 +123,15 @@ pub record FillingUtc (answers : List (Answer Utc)) (n : ℕ) (numbers₀ days�
   pub fills : FillsUtc answers i numbers₀ days₀ micros₀ numbers days micros
 
 module _ (ask : ℕ → Answer Utc) (xs : List ℕ) {n : ℕ} {numbers₀ days₀ micros₀ : List ℕ} where
-  pub start-utc : Few (length xs) → {W : Type 0} → W × (n ≤ length xs) × (n ≤ length numbers₀) × (n ≤ length days₀) × (n ≤ length micros₀) → FillingUtc (map ask xs) n numbers₀ days₀ micros₀ numbers₀ days₀ micros₀ 0
-  start-utc f h =
+  pub start-utc : Few (length xs) → n ≡ min (min (length xs) (length numbers₀)) (min (length days₀) (length micros₀)) → FillingUtc (map ask xs) n numbers₀ days₀ micros₀ numbers₀ days₀ micros₀ 0
+  start-utc f e =
       record {
         place = omega arith;
-        few = omega (arith, h .1);
-        enough = omega (arith, length-map xs ask, h .1);
-        numbers-room = h .2;
-        days-room = h .3;
-        micros-room = h .4;
+        few = omega arith;
+        enough = omega (arith, length-map xs ask);
+        numbers-room = omega arith;
+        days-room = omega arith;
+        micros-room = omega arith;
         fills = record { told = none-written numbers₀; dated = none-written days₀; timed = none-written micros₀ };
       }
 

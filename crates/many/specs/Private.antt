@@ -1,8 +1,8 @@
--- What only private functions are held to: a list prepared for many questions, and the arrays that their loops fill. No public contract and no
+-- What only private functions are held to: a list prepared for many questions, and an array overwritten. No public contract and no
 -- promise speaks of these.
 -- Assumes nothing: these are definitions.
 use mathlib.Core.Bool.{true}
-use mathlib.Core.List.{List, map}
+use mathlib.Core.List.{List}
 use mathlib.Core.Path.{_≡_}
 use Prim.Native.Nat.{ℕ, _+_, _*_, _≤_, _<_}
 use lib.ListN.{length, getD, take}
@@ -11,9 +11,8 @@ use Rattle.schedule.specs.declared.Sign.{Sign}
 use Rattle.schedule.specs.declared.Sign.the-variants.{Positive, Negative}
 use Rattle.schedule.specs.Schedule.{Schedule, noLeap, wellFormed}
 use Rattle.clock.specs.Known.{lastDay}
-use Rattle.clock.specs.Question.{Answer, Utc, number, orZero}
 use Rattle.clock.specs.Tally.{ofSign}
-use Rattle.many.specs.Many.{overwrite, dayOrZero, microsOrZero}
+use Rattle.many.specs.Many.{overwrite}
 
 -- ---- a list prepared
 
@@ -66,13 +65,3 @@ pub record Ready (last : ℕ) (starts guesses : List ℕ) : Type 0 where
 pub record Overwritten {A : Type 0} (new old array : List A) : Type 0 where
   pub is : array ≡ overwrite new old
   pub size : length array ≡ length old
-
--- the first n answers stand in their arrays
-pub record Fills {A : Type 0} (none : A) (answers : List (Answer A)) (n : ℕ) (numbers : List ℕ) (values : List A) (numbers′ : List ℕ) (values′ : List A) : Type 0 where
-  pub told : Overwritten (map number (take n answers)) numbers numbers′
-  pub valued : Overwritten (map (orZero none) (take n answers)) values values′
-
-pub record FillsUtc (answers : List (Answer Utc)) (n : ℕ) (numbers days micros numbers′ days′ micros′ : List ℕ) : Type 0 where
-  pub told : Overwritten (map number (take n answers)) numbers numbers′
-  pub dated : Overwritten (map dayOrZero (take n answers)) days days′
-  pub timed : Overwritten (map microsOrZero (take n answers)) micros micros′

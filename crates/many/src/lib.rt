@@ -7,17 +7,30 @@ ghost use Rattle.schedule.specs.WordLayout.{meant};
 ghost use Rattle.clock.specs.Question.{dtaiOn, utcToTai, taiToUtc, utcToUts, utsToUtc};
 ghost use Rattle.many.specs.Many.{HandsMany, HandsManyUtc};
 
-mod loops; // loops.rt: a loop for each question
+mod replies; // replies.rt: what an instant is replied
 mod stretches; // stretches.rt: the list prepared
 
-use crate::loops::answer_dtai;
-use crate::loops::answer_micros;
-use crate::loops::answer_tai;
-use crate::loops::answer_utc;
-use crate::loops::answer_uts;
-use crate::loops::clear;
-use crate::loops::clear_dtai;
-use crate::loops::refuse;
+use crate::replies::clear;
+use crate::replies::refuse;
+use crate::replies::refuse_dtai;
+use crate::replies::reply_micros;
+use crate::replies::reply_tai;
+use crate::replies::reply_uts;
+use crate::stretches::found;
+use crate::stretches::guesses_of;
+use crate::stretches::starts_of;
+use crate::stretches::tallies_of;
+use clock::answers::dtai_number;
+use clock::answers::dtai_value;
+use clock::answers::utc_day;
+use clock::answers::utc_micros;
+use clock::answers::utc_number;
+use questions::by_day::day_before;
+use questions::by_day::dtai_on;
+use questions::by_day::near_day;
+use questions::by_day::utc_on;
+use schedule::Sign;
+use schedule::expiry_of;
 
 fn shorter(a: usize, b: usize) -> usize
     ensures { λ r. ⌜ r ≡ min a b ⌝ }
@@ -33,12 +46,23 @@ pub fn dtai(words: &[u32; 514], days: &[u64], numbers: &mut [u8], dtais: &mut [i
     ensures { λ n. ⌜ HandsMany (pos 0) (map (dtaiOn (meant (now (words .entry)))) (now (days .entry))) (now (numbers .entry)) (now (dtais .entry)) n (now (numbers .exit)) (now (dtais .exit)) ⌝ }
 {
     let n = shorter(days.len(), shorter(numbers.len(), dtais.len()));
-    if schedule::is_list(words) {
-        answer_dtai(words, days, numbers, dtais, n);
+    if !schedule::is_list(words) {
+        refuse_dtai(numbers, dtais, n);
         return n as u64;
     }
-    refuse(numbers, n);
-    clear_dtai(dtais, n);
+    let last = day_before(expiry_of(words));
+    let starts = starts_of(words);
+    let ups = tallies_of(words, Sign::Positive);
+    let downs = tallies_of(words, Sign::Negative);
+    let guesses = guesses_of(&starts, last);
+    let mut i: usize = 0;
+    while i < n {
+        let day = days[i];
+        let a = dtai_on(found(&starts, &ups, &downs, &guesses, last, day), day);
+        numbers[i] = dtai_number(a);
+        dtais[i] = dtai_value(a);
+        i += 1;
+    }
     n as u64
 }
 
@@ -56,12 +80,22 @@ pub fn utc_to_tai(
         shorter(days.len(), micros.len()),
         shorter(numbers.len(), tais.len()),
     );
-    if schedule::is_list(words) {
-        answer_tai(words, days, micros, numbers, tais, n);
+    if !schedule::is_list(words) {
+        refuse(numbers, tais, n);
         return n as u64;
     }
-    refuse(numbers, n);
-    clear(tais, n);
+    let last = day_before(expiry_of(words));
+    let starts = starts_of(words);
+    let ups = tallies_of(words, Sign::Positive);
+    let downs = tallies_of(words, Sign::Negative);
+    let guesses = guesses_of(&starts, last);
+    let mut i: usize = 0;
+    while i < n {
+        let r = reply_tai(&starts, &ups, &downs, &guesses, last, days[i], micros[i]);
+        numbers[i] = r.number;
+        tais[i] = r.value;
+        i += 1;
+    }
     n as u64
 }
 
@@ -79,12 +113,22 @@ pub fn utc_to_uts(
         shorter(days.len(), micros.len()),
         shorter(numbers.len(), nanos.len()),
     );
-    if schedule::is_list(words) {
-        answer_uts(words, days, micros, numbers, nanos, n);
+    if !schedule::is_list(words) {
+        refuse(numbers, nanos, n);
         return n as u64;
     }
-    refuse(numbers, n);
-    clear(nanos, n);
+    let last = day_before(expiry_of(words));
+    let starts = starts_of(words);
+    let ups = tallies_of(words, Sign::Positive);
+    let downs = tallies_of(words, Sign::Negative);
+    let guesses = guesses_of(&starts, last);
+    let mut i: usize = 0;
+    while i < n {
+        let r = reply_uts(&starts, &ups, &downs, &guesses, last, days[i], micros[i]);
+        numbers[i] = r.number;
+        nanos[i] = r.value;
+        i += 1;
+    }
     n as u64
 }
 
@@ -102,12 +146,22 @@ pub fn uts_to_utc(
         shorter(days.len(), nanos.len()),
         shorter(numbers.len(), micros.len()),
     );
-    if schedule::is_list(words) {
-        answer_micros(words, days, nanos, numbers, micros, n);
+    if !schedule::is_list(words) {
+        refuse(numbers, micros, n);
         return n as u64;
     }
-    refuse(numbers, n);
-    clear(micros, n);
+    let last = day_before(expiry_of(words));
+    let starts = starts_of(words);
+    let ups = tallies_of(words, Sign::Positive);
+    let downs = tallies_of(words, Sign::Negative);
+    let guesses = guesses_of(&starts, last);
+    let mut i: usize = 0;
+    while i < n {
+        let r = reply_micros(&starts, &ups, &downs, &guesses, last, days[i], nanos[i]);
+        numbers[i] = r.number;
+        micros[i] = r.value;
+        i += 1;
+    }
     n as u64
 }
 
@@ -125,12 +179,25 @@ pub fn tai_to_utc(
         shorter(tais.len(), numbers.len()),
         shorter(days.len(), micros.len()),
     );
-    if schedule::is_list(words) {
-        answer_utc(words, tais, numbers, days, micros, n);
+    if !schedule::is_list(words) {
+        refuse(numbers, days, n);
+        clear(micros, n);
         return n as u64;
     }
-    refuse(numbers, n);
-    clear(days, n);
-    clear(micros, n);
+    let last = day_before(expiry_of(words));
+    let starts = starts_of(words);
+    let ups = tallies_of(words, Sign::Positive);
+    let downs = tallies_of(words, Sign::Negative);
+    let guesses = guesses_of(&starts, last);
+    let mut i: usize = 0;
+    while i < n {
+        let x = tais[i];
+        let near = near_day(x, last);
+        let a = utc_on(found(&starts, &ups, &downs, &guesses, last, near), near, x);
+        numbers[i] = utc_number(a);
+        days[i] = utc_day(a);
+        micros[i] = utc_micros(a);
+        i += 1;
+    }
     n as u64
 }

@@ -118,7 +118,7 @@ pub fn tai_on(k: Day, day: u64, micros: u64) -> TaiAnswer
     if number != 0 {
         return TaiAnswer::Refused(number);
     }
-    // No list knows so late a day.
+    // No list ends so late.
     if END_DAY <= k.last {
         return TaiAnswer::Refused(NOT_KNOWN);
     }
@@ -146,6 +146,7 @@ pub fn early_uts(last: u64, day: u64, micros: u64) -> UtsAnswer
     if number != 0 {
         return UtsAnswer::Refused(number);
     }
+    // So the product fits for any number; before the cut-off the smaller one is `micros`.
     UtsAnswer::Given(UtsNanos(1000 * smaller(micros, UTS_CUTOFF)))
 }
 

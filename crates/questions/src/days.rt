@@ -43,7 +43,7 @@ pub(crate) fn day_length(w: Ending) -> u64
     }
 }
 
-// What a schedule says of a day, by a look at it for the day, and its last day.
+// What a list says of a day, by a look at it for the day, and its last day.
 pub(crate) fn day_by(v: Survey, last: u64) -> Day
     ensures { λ r. ⌜ ((s : Schedule) (day : ℕ) → SurveyedOn s day v → (wellFormed s ≡ true → last ≡ lastDay s) → DayFor s day r) ⌝ }
 {
@@ -82,7 +82,7 @@ pub(crate) fn date_refusal(well: bool, last: u64, date: u64) -> u8
     0
 }
 
-// TAI at the start of a day of the calendar.
+// TAI at the start of a day of the calendar. Of counts that no list has by then the difference may wrap.
 pub(crate) fn start_of(k: Day, day: u64) -> u64
     requires { ⌜ day < endDay ⌝ }
     ensures { λ r. ⌜ ((s : Schedule) → wellFormed s ≡ true → firstDay ≤ day → k ≡ dayOn s day → r ≡ tai s day 0) ⌝ }

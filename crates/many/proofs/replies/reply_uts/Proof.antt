@@ -1,10 +1,10 @@
--- `many::loops::reply_uts` meets its contract. Assumes nothing.
+-- `many::replies::reply_uts` meets its contract. Assumes nothing.
 use borrow.Author.Needs.{needs}
 use Rattle.clock.specs.Answers.{utsAnswer, utsNumber, utsValue}
 use Rattle.many.proofs.Stretched.{list-in}
 use Rattle.clock.proofs.Numbers.{uts-told, hands-value}
-use Rattle.many.proofs.loops.reply_uts.Statement.{statement}
-use Rattle.many.proofs.loops.reply_uts.Tie as tie
+use Rattle.many.proofs.replies.reply_uts.Statement.{statement}
+use Rattle.many.proofs.replies.reply_uts.Tie as tie
 
 returns : tie.Need-returns
 returns c s p =

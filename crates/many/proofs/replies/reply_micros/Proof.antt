@@ -1,10 +1,10 @@
--- `many::loops::reply_micros` meets its contract. Assumes nothing.
+-- `many::replies::reply_micros` meets its contract. Assumes nothing.
 use borrow.Author.Needs.{needs}
 use Rattle.clock.specs.Answers.{microsAnswer, microsNumber, microsValue}
 use Rattle.many.proofs.Stretched.{list-in}
 use Rattle.clock.proofs.Numbers.{micros-told, hands-value}
-use Rattle.many.proofs.loops.reply_micros.Statement.{statement}
-use Rattle.many.proofs.loops.reply_micros.Tie as tie
+use Rattle.many.proofs.replies.reply_micros.Statement.{statement}
+use Rattle.many.proofs.replies.reply_micros.Tie as tie
 
 returns : tie.Need-returns
 returns c s p =

@@ -1,9 +1,9 @@
--- `many::loops::reply_tai` meets its contract. Assumes nothing.
+-- `many::replies::reply_tai` meets its contract. Assumes nothing.
 use borrow.Author.Needs.{needs}
 use Rattle.clock.specs.Answers.{taiAnswer, taiNumber, taiValue}
 use Rattle.clock.proofs.Numbers.{tai-told, hands-value}
-use Rattle.many.proofs.loops.reply_tai.Statement.{statement}
-use Rattle.many.proofs.loops.reply_tai.Tie as tie
+use Rattle.many.proofs.replies.reply_tai.Statement.{statement}
+use Rattle.many.proofs.replies.reply_tai.Tie as tie
 
 returns : tie.Need-returns
 returns c s p =
