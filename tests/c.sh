@@ -78,8 +78,8 @@ size "$LEAP_LIB_DIR/libleap.a" | awk 'NR > 1 { sum += $2 + $3; n++ } END { exit 
     || fail "the archive has data that can change"
 ok "archive: no data that can change, so no state"
 
-# Readers clear the words that they fill, writers and calls for many make arrays, calls about two lists make both, a replay stores and resets;
-# a single question looks at the words where they stand. The check and the extension of a list by value belong to writers and to calls about two lists.
+# Readers clear the words that they fill, the nybble writer and calls for many make arrays, calls about two texts read both into words of their
+# own, a replay stores and resets; a single question, the text writer and the question of extension look at the words where they stand.
 listing=$(objdump -dr "$LEAP_LIB_DIR/libleap.a")
 # within PATTERN: the functions whose code shows it
 within() {
@@ -87,14 +87,11 @@ within() {
 }
 copying=$(within 'mem(cpy|move|set)')
 grep -q '<leap_read_text>' <<<"$copying" || fail "objdump shows no copy at all"
-by_value='schedule::(extends|is_well_formed)'
-two_lists='leap_(compare_text|longer_text|extends)>|compare::'
-copiers="leap_(read|write)_|leap_.*_many>|$two_lists|leap_replay>|(text|nybbles|replay)::|$by_value>"
-questions=$(grep -vE "^<($copiers)" <<<"$copying") || true
-[ -z "$questions" ] || fail "the archive copies or clears memory in ${questions//$'\n'/ }"
-callers=$(within "$by_value[-+]" | grep -vE "^<(leap_write_|(text|nybbles)::|$two_lists|$by_value>)") || true
-[ -z "$callers" ] || fail "the archive copies a list for ${callers//$'\n'/ }"
-ok "archive: no single question copies or clears memory"
+copiers='leap_read_|leap_write_nybbles>|leap_.*_many>|leap_(compare_text|longer_text)>|leap_replay>|(text|nybbles|compare|replay|many)::'
+others=$(grep -vE "^<($copiers)" <<<"$copying") || true
+[ -z "$others" ] || fail "the archive copies or clears memory in ${others//$'\n'/ }"
+[ -z "$(within 'memcpy' | grep -vE '^<(leap_.*_many>|many::|leap_replay>|replay::)')" ] || fail "the archive copies words where it should look at them"
+ok "archive: no single question, text writer or extension copies or clears memory, and no reader or comparison copies"
 
 for test in lists times malformed many compare replay; do
     compiled "$test" -g -fsanitize=address,undefined
