@@ -43,23 +43,27 @@ extern "C" {
 #define LEAP_API_VERSION 2
 
 /* What a call returns, or puts into `numbers`. */
-enum {
+enum { /* the refusals */
     LEAP_OK = 0,               /* an answer */
     LEAP_ENDS_EARLY = 1,       /* the list ends early */
     LEAP_NOT_ALLOWED = 2,      /* a byte that is not allowed there */
-    LEAP_BAD_GAP = 3,          /* a gap malformed or over 999 */
+    LEAP_BAD_GAP = 3,          /* a gap malformed or over 999 months */
     LEAP_PAST_LAST_MONTH = 4,  /* past month 2400, January 2172 */
     LEAP_TOO_MANY_LEAPS = 5,   /* more than 256 leaps */
     LEAP_AFTER_END = 6,        /* something after the end */
-    LEAP_OUTPUT_SHORT = 7,     /* output shorter than the list, the comparison or
-                                  what a line of a trace may print */
-    LEAP_BEFORE_1972 = 8,      /* MJD under 41317, or TAI under 10,000,000 */
+    LEAP_OUTPUT_SHORT = 7,     /* the output is shorter than the list, or than
+                                  the comparison of two lists, or than what a
+                                  line of a trace may print */
+    LEAP_BEFORE_1972 = 8,      /* before 1972: an MJD under 41317, or a TAI
+                                  under 10,000,000 */
     LEAP_NO_INSTANT = 9,       /* no such instant */
     LEAP_NOT_KNOWN = 10,       /* expired or not yet known */
     LEAP_NOT_WELL_FORMED = 11, /* the schedule is not well formed */
     LEAP_CONTRADICTION = 16,   /* two lists contradict each other */
-    LEAP_NO_GAP = 17,          /* rounding the expiry down to its month leaves a gap of 0 */
-    LEAP_NO_LINE = 20          /* no line of a trace (printed, returned by no call) */
+    LEAP_NO_GAP = 17,          /* rounding the expiry down to its month leaves
+                                  a gap of 0 */
+    LEAP_NO_LINE = 20          /* no line of a trace (printed, returned by no
+                                  call) */
 };
 
 enum {

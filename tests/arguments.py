@@ -16,19 +16,19 @@ UNKNOWN = b"? expected: " + WORDS
 NO_HELP = b"? expected: help WORD, WORD being " + WORDS
 TOO_LONG = expected(b"0" * (LONGEST + 1)) + b"\n"
 
-# "The eleven numbers" of 01, and those that requests of 02 add
+# the numbers of 01, and those that requests of 02 add, kept by hand beside tools/refusals.txt
 NUMBERS = {
-    1: "list ends early",
-    2: "byte not allowed there",
-    3: "gap malformed or over 999",
-    4: "past month 2400",
+    1: "the list ends early",
+    2: "a byte that is not allowed there",
+    3: "a gap malformed or over 999 months",
+    4: "past month 2400, January 2172",
     5: "more than 256 leaps",
     6: "something after the end",
-    7: "output shorter than the list",
-    8: "before 1972: MJD under 41317, or TAI under 10,000,000",
+    7: "the output is shorter than the list",
+    8: "before 1972: an MJD under 41317, or a TAI under 10,000,000",
     9: "no such instant",
     10: "expired or not yet known",
-    11: "schedule not well formed",
+    11: "the schedule is not well formed",
     16: "two lists contradict each other",
     17: "rounding the expiry down to its month leaves a gap of 0",
     20: "no line of a trace",
@@ -133,8 +133,8 @@ def helps(leapsec):
             sys.exit(f"FAILED help has no line for {head!r}")
     print(f"ok the help of {len(words)} words starts as what was expected of them")
     rows = itertools.takewhile(lambda row: row[:1].isdigit(), reversed(text.decode().splitlines()))
-    numbers = dict(cell.split(" ", 1) for row in rows for cell in re.split(" {2,}", row))
-    if numbers != {str(n): meaning.partition(":")[0] for n, meaning in IN_HELP.items() if n not in NOT_GIVEN}:
+    numbers = dict(re.split(" +", row, maxsplit=1) for row in rows)
+    if numbers != {str(n): meaning for n, meaning in IN_HELP.items() if n not in NOT_GIVEN}:
         sys.exit(f"FAILED the numbers in help: {numbers}")
     print(f"ok the {len(numbers)} numbers in help are those of 01 and 02")
     for words in [["foo"], [""], ["show", "x"], ["show", ""], ["", "show"], ["show\n"], ["x" * 100_000]]:

@@ -11,6 +11,9 @@ crates=$(sed 's/#.*//; s/:.*//' crates.txt | tr -d ' ' | grep -v '^$')
 python3 tools/month_table.py | cmp -s - crates/calendar/src/table.rt || fail "crates/calendar/src/table.rt is not what tools/month_table.py prints"
 ok "the month table is what its generator prints"
 
+python3 tools/refusals.py --check || fail "the refusals are not everywhere as tools/refusals.txt has them"
+ok "the refusals are everywhere as their table has them"
+
 rt fmt --check >/dev/null || fail "rt fmt --check names files that are not in the layout"
 ok "every file is in the layout of rt fmt"
 

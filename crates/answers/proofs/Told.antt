@@ -3,7 +3,8 @@ use mathlib.Core.Path.{_≡_, refl}
 use Prim.Native.Nat.{ℕ}
 use lib.IntN.{ℤ}
 use Rattle.format.specs.Decimal.{decimal, signed}
-use Rattle.clock.specs.Question.{Answer, given, refused, Utc, TAI-to-UTC, dtaiOn, utcToTai, taiToUtc, utcToUts, utsToUtc}
+use Rattle.refusals.specs.Answer.{Answer, given, refused}
+use Rattle.clock.specs.Question.{Utc, TAI-to-UTC, dtaiOn, utcToTai, taiToUtc, utcToUts, utsToUtc}
 use Rattle.clock.specs.Answers.{dtaiAnswer, taiAnswer, utcAnswer, utsAnswer, microsAnswer}
 use Rattle.clock.specs.declared.DtaiAnswer.{DtaiAnswer}
 use Rattle.clock.specs.declared.TaiAnswer.{TaiAnswer}

@@ -19,7 +19,8 @@ use Rattle.schedule.proofs.Gaps.{parts}
 use Rattle.clock.specs.Days.{longDay, shortDay, dtai, endingBefore, ending, dayLength, tai}
 use Rattle.clock.specs.Smoothed.{nanosPerDay, uts, utcOf}
 use Rattle.clock.specs.Known.{lastDay, fullyKnown, taiCutoff, utsCutoff, nanosCutoff, knownTo, knownDate, taiEnd, knownTai}
-use Rattle.clock.specs.Question.{Answer, given, refused, require, firstTai, atInstant, atUtc, dtaiOn, utcToTai, dayOf, taiToUtc, utcToUts, utsToUtc, Question, DTAI, UTC-to-TAI, TAI-to-UTC, UTC-to-UTS, UTS-to-UTC, ask}
+use Rattle.refusals.specs.Answer.{Answer, given, refused, require}
+use Rattle.clock.specs.Question.{firstTai, atInstant, atUtc, dtaiOn, utcToTai, dayOf, taiToUtc, utcToUts, utsToUtc, Question, DTAI, UTC-to-TAI, TAI-to-UTC, UTC-to-UTS, UTS-to-UTC, ask}
 use Rattle.clock.specs.Lists.{Open, Kept}
 use Rattle.clock.proofs.Tally.{tally}
 use Rattle.clock.proofs.Tallied.{dtai-tallied}

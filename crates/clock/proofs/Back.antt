@@ -14,7 +14,8 @@ use Rattle.clock.specs.declared.Ending.the-variants.{Ordinary, Inserted,
 use Rattle.clock.specs.Days.{ending, dayLength}
 use Rattle.clock.specs.Smoothed.{nanosPerDay, uts, utcOf}
 use Rattle.clock.specs.Known.{lastDay, utsCutoff, nanosCutoff}
-use Rattle.clock.specs.Question.{given, utcToUts, utsToUtc}
+use Rattle.refusals.specs.Answer.{given}
+use Rattle.clock.specs.Question.{utcToUts, utsToUtc}
 use Rattle.clock.proofs.Tai.{length-least}
 use Rattle.clock.proofs.Uts.{uts-is, uts-rises, uts-within, uts-plain}
 use Rattle.clock.proofs.Checks.{Sure, instant-passed, on-utc, utc-answered, on-uts}

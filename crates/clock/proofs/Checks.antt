@@ -1,13 +1,13 @@
--- The checks of a question: what each says when it is passed, and that they do not look at the value asked for.
+-- The end of knowledge, and the checks of a question: what holds when all are passed.
 -- Assumes nothing.
-use mathlib.Core.Bool.{Bool, true, false, cond, not, _&&_, _||_, or-true, and-eq-true-iff}
+use mathlib.Core.Bool.{Bool, true, false, cond, _&&_, _||_, or-true, and-eq-true-iff}
 use mathlib.Core.Logic.{_⊎_, inl, inr}
 use mathlib.Core.Path.{_≡_, refl, sym, ap, _∙_}
 use Prim.Native.Nat.{ℕ, _+_, _≤_, _<_}
 use native.Mathlib.Decide.{decLt}
 use native.Mathlib.Omega.{arith}
 use lib.Dec.{leb, ltb, eqb}
-use borrow.Author.Tests.{ltb-true, leb-true, eqb-true, lt-ltb, le-ltb, le-leb, eq-eqb, ne-eqb, not-true, not-false}
+use borrow.Author.Tests.{ltb-true, leb-true, eqb-true, lt-ltb, le-ltb, le-leb, eq-eqb, ne-eqb}
 use Rattle.refusals.specs.Refusals.{before1972, noInstant, notKnown, notWellFormed}
 use Rattle.calendar.specs.Calendar.{firstDay}
 use Rattle.schedule.specs.Schedule.{Schedule, wellFormed}
@@ -15,8 +15,10 @@ use Rattle.schedule.proofs.Cases.{by-bool}
 use Rattle.clock.specs.Days.{longDay, ending, dayLength}
 use Rattle.clock.specs.Smoothed.{nanosPerDay}
 use Rattle.clock.specs.Known.{lastDay, fullyKnown, nanosCutoff, knownTo, knownDate}
-use Rattle.clock.specs.Question.{Answer, given, refused, require, number, atDate, atInstant, atUtc, atUts}
+use Rattle.refusals.specs.Answer.{Answer, given, refused, require, number}
+use Rattle.clock.specs.Question.{atDate, atInstant, atUtc, atUts}
 use Rattle.clock.specs.Taken.{Within}
+use Rattle.refusals.proofs.Checks.{pass, required, given-is, through}
 use Rattle.clock.proofs.Tai.{length-most}
 
 -- ---- the end of knowledge
@@ -120,29 +122,6 @@ within-sure {last} (inl h) = inl (omega (arith, whole-near last))
 within-sure {last} (inr (e, inl f)) = inl (omega (arith, whole-shut last f))
 within-sure (inr (e, inr l)) = inr (e, l)
 
--- ---- one check
-
-pub pass : {A : Type 0} {a : Answer A} {b : Bool} (n : ℕ) → b ≡ true → require b n a ≡ a
-pass n e = rw e
-
-pub stop : {A : Type 0} (a : Answer A) {b : Bool} (n : ℕ) → b ≡ false → require b n a ≡ refused n
-stop a n e = rw e
-
--- what the code's flag says of the test that it stands for
-pub passed : {a b : Bool} → b ≡ a → not b ≡ false → a ≡ true
-passed {a} {b} e h = sym e ∙ not-false b h
-
-pub failed : {a b : Bool} → b ≡ a → not b ≡ true → a ≡ false
-failed {a} {b} e h = sym e ∙ not-true b h
-
--- a check that was passed, and what was asked after it
-pub required : {A : Type 0} {a : Answer A} {v : A} (b : Bool) (n : ℕ) → require b n a ≡ given v → (b ≡ true) × (a ≡ given v)
-required true n h = (refl, h)
-required false n h = absurd (let z : _≡_ {A = ℕ} 0 1 = cc in omega arith)
-
-pub given-is : {A : Type 0} {a b : A} → given a ≡ given b → a ≡ b
-given-is h = cc
-
 -- ---- all the checks of a question
 
 -- what holds when a date is answered
@@ -210,10 +189,6 @@ on-uts s day u v x h = let p = on-instant s nanosPerDay nanosCutoff day u h in (
 
 -- ---- the numbers
 
-through : {A : Type 0} (b : Bool) (n : ℕ) (a : Answer A) → n ≤ 11 → number a ≤ 11 → number (require b n a) ≤ 11
-through true n a h g = g
-through false n a h g = h
-
 -- an instant of UTC is refused with at most 11
 pub utc-number : {A : Type 0} (s : Schedule) (cutoff day t : ℕ) (v : A) → number (atUtc (wellFormed s) (lastDay s) (ending s day) cutoff day t v) ≤ 11
 utc-number {A} s cutoff day t v =
@@ -221,8 +196,8 @@ utc-number {A} s cutoff day t v =
     let known-left : Answer A = require (knownTo (lastDay s) cutoff day t) notKnown length-left in
     let long-left : Answer A = require (ltb t longDay) noInstant known-left in
     let early-left : Answer A = require (leb firstDay day) before1972 long-left in
-    through (wellFormed s) notWellFormed early-left (omega arith)
-    (through (leb firstDay day) before1972 long-left (omega arith)
-    (through (ltb t longDay) noInstant known-left (omega arith)
-    (through (knownTo (lastDay s) cutoff day t) notKnown length-left (omega arith)
-    (through (ltb t (dayLength (ending s day))) noInstant (given v) (omega arith) (omega arith)))))
+    through (wellFormed s) notWellFormed 11 early-left (omega arith)
+    (through (leb firstDay day) before1972 11 long-left (omega arith)
+    (through (ltb t longDay) noInstant 11 known-left (omega arith)
+    (through (knownTo (lastDay s) cutoff day t) notKnown 11 length-left (omega arith)
+    (through (ltb t (dayLength (ending s day))) noInstant 11 (given v) (omega arith) (omega arith)))))

@@ -24,10 +24,11 @@ use Rattle.clock.specs.Days.{firstDtai, dtai}
 use Rattle.clock.proofs.Tally.{count, tally}
 use Rattle.clock.proofs.Tallied.{dtai-tallied}
 use Rattle.clock.specs.Known.{lastDay}
-use Rattle.clock.specs.Question.{given, DTAI, ask}
+use Rattle.refusals.specs.Answer.{given}
+use Rattle.clock.specs.Question.{DTAI, ask}
 use Rattle.clock.specs.Lists.{Agreed, Parted}
 use Rattle.clock.proofs.Leaps.{not-yet, tally-none}
-use Rattle.clock.proofs.Checks.{pass, given-is}
+use Rattle.refusals.proofs.Checks.{pass, given-is}
 use Rattle.clock.proofs.Agree.{keeps}
 
 -- the difference of two counts tells them apart

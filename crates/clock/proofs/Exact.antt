@@ -17,7 +17,8 @@ use Rattle.clock.specs.declared.Ending.the-variants.{Ordinary, Inserted,
 use Rattle.clock.specs.Days.{microsPerDay, firstDtai, ending, dayLength, dtai, tai}
 use Rattle.clock.specs.Smoothed.{smoothing, minus, uts}
 use Rattle.clock.specs.Known.{taiCutoff}
-use Rattle.clock.specs.Question.{given, utcToTai}
+use Rattle.refusals.specs.Answer.{given}
+use Rattle.clock.specs.Question.{utcToTai}
 use Rattle.clock.proofs.Tally.{tally}
 use Rattle.clock.proofs.Tallied.{plus-negative, plus-times, dtai-tallied, days-exact, tai-tallied}
 use Rattle.clock.proofs.Leaps.{part}

@@ -15,9 +15,11 @@ use Rattle.schedule.specs.Schedule.{Schedule, wellFormed}
 use Rattle.schedule.proofs.Cases.{by-bool}
 use Rattle.clock.specs.Days.{microsPerDay, ending, dayLength, tai}
 use Rattle.clock.specs.Known.{lastDay, fullyKnown, taiCutoff, knownTo, taiEnd, knownTai}
-use Rattle.clock.specs.Question.{given, Utc, firstTai, utcToTai, dayOf, taiToUtc}
+use Rattle.refusals.specs.Answer.{given}
+use Rattle.clock.specs.Question.{Utc, firstTai, utcToTai, dayOf, taiToUtc}
 use Rattle.clock.proofs.Tai.{expires-later, ending-last, tai-in-day, tai-first, tai-next, tai-order, tai-rises}
-use Rattle.clock.proofs.Checks.{Sure, wholeTo, whole-open, whole-shut, whole-near, known-whole, known-before, known-last, known-sure, sure-through, on-utc, utc-answered, required, given-is}
+use Rattle.refusals.proofs.Checks.{required, given-is}
+use Rattle.clock.proofs.Checks.{Sure, wholeTo, whole-open, whole-shut, whole-near, known-whole, known-before, known-last, known-sure, sure-through, on-utc, utc-answered}
 
 -- x is the TAI of an instant that the schedule knows
 pub record Instant (s : Schedule) (x day t : ℕ) : Type 0 where

@@ -17,11 +17,13 @@ use Rattle.clock.specs.declared.Ending.the-variants.{Ordinary}
 use Rattle.clock.specs.Days.{longDay, ending, dayLength, tai}
 use Rattle.clock.specs.Smoothed.{nanosPerDay, uts, utcOf}
 use Rattle.clock.specs.Known.{lastDay, fullyKnown, taiCutoff, utsCutoff, nanosCutoff, taiEnd}
-use Rattle.clock.specs.Question.{Answer, given, refused, firstTai, atInstant, atUtc, utcToTai, taiToUtc, utcToUts, utsToUtc, TAI-to-UTC, Utc}
+use Rattle.refusals.specs.Answer.{Answer, given, refused}
+use Rattle.clock.specs.Question.{firstTai, atInstant, atUtc, utcToTai, taiToUtc, utcToUts, utsToUtc, TAI-to-UTC, Utc}
 use Rattle.clock.proofs.Tai.{expires-later, ending-last}
 use Rattle.clock.proofs.Uts.{uts-is, uts-plain}
 use Rattle.clock.proofs.Back.{back-plain, back-ordinary}
-use Rattle.clock.proofs.Checks.{Sure, whole-near, whole-shut, known-whole, known-from, pass, stop, instant-passed, utc-answered}
+use Rattle.refusals.proofs.Checks.{pass, stop}
+use Rattle.clock.proofs.Checks.{Sure, whole-near, whole-shut, known-whole, known-from, instant-passed, utc-answered}
 use Rattle.clock.proofs.Taken.{taken}
 
 -- UTS on a day without a leap

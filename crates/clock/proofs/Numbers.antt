@@ -3,7 +3,8 @@
 use mathlib.Core.Path.{_≡_, refl, ap, _∙_}
 use Prim.Native.Nat.{ℕ}
 use lib.IntN.{ℤ, pos}
-use Rattle.clock.specs.Question.{Answer, given, refused, Utc, orZero, number as numberOf}
+use Rattle.refusals.specs.Answer.{Answer, given, refused, orZero, number as numberOf}
+use Rattle.clock.specs.Question.{Utc}
 use Rattle.clock.specs.declared.UtcAnswer.{UtcAnswer}
 use Rattle.clock.specs.Answers.{dtaiNumber, dtaiValue, dtaiAnswer, taiNumber, taiValue, taiAnswer, utcNumber, utcDay, utcMicros, utcAnswer, utsNumber, utsValue, utsAnswer, microsNumber, microsValue, microsAnswer, HandsValue, HandsUtc}
 

@@ -8,7 +8,8 @@ use Rattle.schedule.specs.Schedule.{Schedule}
 use Rattle.clock.specs.Days.{ending}
 use Rattle.clock.specs.Smoothed.{nanosPerDay, nanosPerSecond, uts}
 use Rattle.clock.specs.Known.{utsCutoff}
-use Rattle.clock.specs.Question.{given, utcToUts}
+use Rattle.refusals.specs.Answer.{given}
+use Rattle.clock.specs.Question.{utcToUts}
 use Rattle.clock.proofs.Uts.{uts-rises, uts-within, uts-near}
 use Rattle.clock.proofs.Checks.{on-utc}
 

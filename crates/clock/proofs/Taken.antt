@@ -13,10 +13,12 @@ use Rattle.schedule.specs.Schedule.{Schedule, wellFormed}
 use Rattle.clock.specs.Days.{longDay, ending, dayLength, dtai, tai}
 use Rattle.clock.specs.Smoothed.{nanosPerDay, uts, utcOf}
 use Rattle.clock.specs.Known.{lastDay, taiCutoff, utsCutoff, nanosCutoff, taiEnd, knownTai}
-use Rattle.clock.specs.Question.{Answer, given, refused, firstTai, atInstant, atUtc, dayOf, utcToTai, utcToUts, utsToUtc, Question, DTAI, UTC-to-TAI, TAI-to-UTC, UTC-to-UTS, UTS-to-UTC, Value, ask}
+use Rattle.refusals.specs.Answer.{Answer, given, refused}
+use Rattle.clock.specs.Question.{firstTai, atInstant, atUtc, dayOf, utcToTai, utcToUts, utsToUtc, Question, DTAI, UTC-to-TAI, TAI-to-UTC, UTC-to-UTS, UTS-to-UTC, Value, ask}
 use Rattle.clock.specs.Taken.{Within, Takes}
 use Rattle.clock.proofs.Tai.{expires-later}
-use Rattle.clock.proofs.Checks.{known-after, sure-within, within-sure, pass, stop, required, on-date, on-utc, utc-answered, on-uts, instant-passed}
+use Rattle.refusals.proofs.Checks.{pass, stop, required}
+use Rattle.clock.proofs.Checks.{known-after, sure-within, within-sure, on-date, on-utc, utc-answered, on-uts, instant-passed}
 
 module _ (s : Schedule) (w : wellFormed s ≡ true) where
   utc-taken : {A : Type 0} (cutoff day t : ℕ) (v : A)

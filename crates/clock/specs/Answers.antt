@@ -5,7 +5,8 @@ use Prim.Native.Nat.{ℕ}
 use mir.Syntax.{w32}
 use mir.Val.{toZ, ofZ}
 use lib.IntN.{ℤ, pos}
-use Rattle.clock.specs.Question.{Answer, given, refused, Utc, orZero, number as numberOf}
+use Rattle.refusals.specs.Answer.{Answer, given, refused, orZero, number as numberOf}
+use Rattle.clock.specs.Question.{Utc}
 use Rattle.clock.specs.declared.DtaiAnswer.{DtaiAnswer}
 use Rattle.clock.specs.declared.DtaiAnswer.the-variants as dtai
 use Rattle.clock.specs.declared.TaiAnswer.{TaiAnswer}

@@ -7,7 +7,8 @@ use Prim.Native.Nat.{ℕ}
 use lib.IntN.{ℤ}
 use Rattle.refusals.specs.Refusals.{before1972, noInstant, notKnown}
 use Rattle.schedule.specs.Schedule.{Schedule}
-use Rattle.clock.specs.Question.{Answer, given, refused, Question, DTAI, Value, ask}
+use Rattle.refusals.specs.Answer.{Answer, given, refused}
+use Rattle.clock.specs.Question.{Question, DTAI, Value, ask}
 
 -- what refusal 10 may become: itself, 9 or an answer
 abbrev pub Open : {A : Type 0} → Answer A → Type 0

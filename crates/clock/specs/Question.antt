@@ -1,9 +1,10 @@
 -- The five questions: what is checked, in the order of "The eleven numbers", and what is answered.
 -- Assumes nothing: these are definitions.
-use mathlib.Core.Bool.{Bool, true, false}
+use mathlib.Core.Bool.{Bool}
 use Prim.Native.Nat.{ℕ, _-_}
 use lib.Dec.{leb, ltb}
 use lib.IntN.{ℤ}
+use Rattle.refusals.specs.Answer.{Answer, given, require}
 use Rattle.refusals.specs.Refusals.{before1972, noInstant, notKnown, notWellFormed}
 use Rattle.calendar.specs.Calendar.{firstDay}
 use Rattle.calendar.specs.Greatest.{greatest}
@@ -12,16 +13,6 @@ use Rattle.clock.specs.declared.Ending.{Ending}
 use Rattle.clock.specs.Days.{longDay, dtai, ending, dayLength, tai}
 use Rattle.clock.specs.Smoothed.{nanosPerDay, uts, utcOf}
 use Rattle.clock.specs.Known.{lastDay, taiCutoff, utsCutoff, nanosCutoff, knownTo, knownDate, knownTai}
-
--- a result with number 0 and the values asked for, or a refusal with its number
-pub data Answer (A : Type 0) : Type 0 where
-  given : A → Answer A
-  refused : ℕ → Answer A
-
--- refused with the number unless the test passes
-abbrev pub require : {A : Type 0} → Bool → ℕ → Answer A → Answer A
-require true n a = a
-require false n a = refused n
 
 -- the TAI of 1972-01-01 00:00:00 UTC
 abbrev pub firstTai : ℕ
@@ -116,13 +107,3 @@ ask s (UTC-to-TAI day t) = utcToTai s day t
 ask s (TAI-to-UTC x) = taiToUtc s x
 ask s (UTC-to-UTS day t) = utcToUts s day t
 ask s (UTS-to-UTC day u) = utsToUtc s day u
-
--- "Accepted answers carry number 0"
-abbrev pub number : {A : Type 0} → Answer A → ℕ
-number (given v) = 0
-number (refused n) = n
-
--- "Refused time questions return 0 for every number asked for"
-abbrev pub orZero : {A : Type 0} → A → Answer A → A
-orZero z (given v) = v
-orZero z (refused n) = z

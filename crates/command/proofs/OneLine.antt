@@ -18,7 +18,8 @@ use Rattle.text.specs.Read.{readText}
 use Rattle.text.specs.Write.{textOf}
 use Rattle.nybbles.specs.Read.{readNybbles}
 use Rattle.nybbles.specs.Write.{nybblesOf}
-use Rattle.clock.specs.Question.{Answer, given, refused, Question, DTAI, UTC-to-TAI, TAI-to-UTC, UTC-to-UTS, UTS-to-UTC, Value, ask}
+use Rattle.refusals.specs.Answer.{Answer, given, refused}
+use Rattle.clock.specs.Question.{Question, DTAI, UTC-to-TAI, TAI-to-UTC, UTC-to-UTS, UTS-to-UTC, Value, ask}
 use Rattle.line.specs.declared.words.Word.{Word}
 use Rattle.line.specs.declared.words.Word.the-variants.{Show, Nybbles, Text, Dtai, Tai, Utc, Uts, Unsmooth, Compare, Longer, Other}
 use Rattle.format.specs.Lines.{newline, spaceByte}

@@ -12,7 +12,8 @@ use Rattle.nybbles.specs.Codes.{nybbles, single, wide, codesOf}
 use Rattle.nybbles.specs.Read.{fault, after, readCodes, readNybbles}
 use Rattle.clock.specs.Known.{knownTo}
 use Rattle.clock.specs.Smoothed.{uts}
-use Rattle.clock.specs.Question.{Answer, given, refused, utcToUts}
+use Rattle.refusals.specs.Answer.{Answer, given, refused}
+use Rattle.clock.specs.Question.{utcToUts}
 
 -- a row: a text or nybbles with what reading them answers; or a list's text, a day and microseconds of it, with their UTS
 pub data Row : Type 0 where

@@ -9,9 +9,9 @@ use Rattle.schedule.specs.Schedule.{Schedule, wellFormed}
 use Rattle.schedule.specs.Extends.{Extends, extends}
 use Rattle.schedule.proofs.Cases.{by-bool}
 use Rattle.schedule.proofs.Extension.{means, tests, fails}
-use Rattle.clock.specs.Question.{given}
+use Rattle.refusals.specs.Answer.{given}
 use Rattle.clock.specs.Answers.{HandsValue}
-use Rattle.clock.proofs.Checks.{given-is}
+use Rattle.refusals.proofs.Checks.{given-is}
 use Rattle.leap.specs.Calls.{yesOf, extension}
 
 module _ (longer shorter : Schedule) where

@@ -12,7 +12,7 @@ use Rattle.schedule.specs.declared.Writing.{Writing}
 use Rattle.schedule.specs.Schedule.{Schedule, wellFormed}
 use Rattle.schedule.specs.Answers.{writing, written}
 use Rattle.schedule.specs.Extends.{extends}
-use Rattle.clock.specs.Question.{Answer, given, require}
+use Rattle.refusals.specs.Answer.{Answer, given, require}
 use Rattle.stream.specs.Lines.{linesOf}
 use Rattle.stream.specs.Stream.{answered, LinesAnswered}
 use Rattle.replay.specs.Replay.{State, maxPrinted, replaying}

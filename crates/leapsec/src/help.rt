@@ -34,12 +34,18 @@ What is no question is answered by ? and what was expected. A question that is r
 answered by ! and a number, and where a list does not read also by the place in it. Of two\n\
 lists and in a trace no place is given, and compare gives the number alone, without the !.\n\
 The numbers:\n\
-1 list ends early            4 past month 2400          8 before 1972\n\
-2 byte not allowed there     5 more than 256 leaps      9 no such instant\n\
-3 gap malformed or over 999  6 something after the end  10 expired or not yet known\n\
-11 no list in use, in a trace\n\
-16 two lists contradict each other\n\
-20 no line of a trace\n",
+1   the list ends early\n\
+2   a byte that is not allowed there\n\
+3   a gap malformed or over 999 months\n\
+4   past month 2400, January 2172\n\
+5   more than 256 leaps\n\
+6   something after the end\n\
+8   before 1972: an MJD under 41317, or a TAI under 10,000,000\n\
+9   no such instant\n\
+10  expired or not yet known\n\
+11  no list in use, in a trace\n\
+16  two lists contradict each other\n\
+20  no line of a trace\n",
     );
 }
 

@@ -11,7 +11,8 @@ use Rattle.calendar.specs.Calendar.{endDay}
 use Rattle.schedule.specs.declared.Sign.the-variants.{Positive, Negative}
 use Rattle.schedule.specs.Schedule.{Schedule, wellFormed}
 use Rattle.schedule.specs.WordLayout.{expiryWord, meant}
-use Rattle.clock.specs.Question.{Answer, refused, Utc, number, orZero}
+use Rattle.refusals.specs.Answer.{Answer, refused, number, orZero}
+use Rattle.clock.specs.Question.{Utc}
 use Rattle.clock.specs.Answers.{HandsValue, HandsUtc}
 use Rattle.many.specs.Private.{Starts, Fenced, Tallies, Guesses, Prepared, Ready, Overwritten}
 use Rattle.many.specs.Many.{overwrite, dayOrZero, microsOrZero, HandsMany, HandsManyUtc}

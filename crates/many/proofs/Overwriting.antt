@@ -8,7 +8,8 @@ use native.Mathlib.Numerals.{add-one}
 use native.Mathlib.Omega.{arith}
 use lib.ListN.{length, getD, take, drop, set, length-append, length-drop, length-take, length-set, length-map, List·getD-append, List·getD-map}
 use lib.Seq.{set-at, take-suc, drop-cons, append-snoc, getD-append-add, getD-drop, getD-take}
-use Rattle.clock.specs.Question.{Answer, Utc, number, orZero}
+use Rattle.refusals.specs.Answer.{Answer, number, orZero}
+use Rattle.clock.specs.Question.{Utc}
 use Rattle.many.specs.Many.{overwrite, HandsMany, HandsManyUtc, dayOrZero, microsOrZero}
 use Rattle.many.specs.Private.{Overwritten}
 

@@ -5,7 +5,8 @@ use mathlib.Core.List.{List, _++_, map}
 use mathlib.Core.Path.{_≡_}
 use Prim.Native.Nat.{ℕ, min}
 use lib.ListN.{length, take, drop}
-use Rattle.clock.specs.Question.{Answer, Utc, number, orZero}
+use Rattle.refusals.specs.Answer.{Answer, number, orZero}
+use Rattle.clock.specs.Question.{Utc}
 
 -- the new elements at the start, and the rest of the old as it was
 unfoldable pub overwrite : {A : Type 0} → List A → List A → List A

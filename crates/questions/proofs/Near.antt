@@ -14,9 +14,11 @@ use Rattle.schedule.specs.Schedule.{Schedule, wellFormed}
 use Rattle.schedule.proofs.Cases.{by-bool}
 use Rattle.clock.specs.Days.{ending, dayLength, tai}
 use Rattle.clock.specs.Known.{lastDay, fullyKnown, taiCutoff, taiEnd}
-use Rattle.clock.specs.Question.{given, require, firstTai, dayOf, taiToUtc}
+use Rattle.refusals.specs.Answer.{given, require}
+use Rattle.clock.specs.Question.{firstTai, dayOf, taiToUtc}
 use Rattle.clock.proofs.Tai.{length-least, tai-low, tai-high, tai-first, tai-next, tai-rises}
-use Rattle.clock.proofs.Checks.{known-after, pass, stop}
+use Rattle.refusals.proofs.Checks.{pass, stop}
+use Rattle.clock.proofs.Checks.{known-after}
 use Rattle.clock.proofs.Instant.{last-from, end-open, end-shut, end-from, known-in-day}
 use Rattle.questions.specs.Said.{mostDtai, nearDay, onDay}
 

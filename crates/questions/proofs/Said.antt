@@ -10,17 +10,18 @@ use borrow.Author.Tests.{leb-true, le-leb}
 use Rattle.refusals.specs.Refusals.{before1972, noInstant, notKnown, notWellFormed}
 use Rattle.calendar.specs.Calendar.{firstDay}
 use Rattle.schedule.specs.Schedule.{Schedule, wellFormed}
-use Rattle.schedule.proofs.Cases.{by-bool}
 use Rattle.clock.specs.declared.Ending.{Ending}
 use Rattle.clock.specs.Days.{longDay, dtai, ending, dayLength, taiWith, tai}
 use Rattle.clock.specs.Smoothed.{nanosPerDay, uts, utcOf}
 use Rattle.clock.specs.Known.{lastDay, taiCutoff, utsCutoff, nanosCutoff, knownTo}
-use Rattle.clock.specs.Question.{Answer, given, require, firstTai, Utc, atDate, atInstant, dtaiOn, utcToTai, taiToUtc, utcToUts, utsToUtc}
+use Rattle.refusals.specs.Answer.{Answer, given, require}
+use Rattle.clock.specs.Question.{firstTai, Utc, atDate, atInstant, dtaiOn, utcToTai, taiToUtc, utcToUts, utsToUtc}
 use Rattle.clock.proofs.Tai.{last-inside}
 use Rattle.clock.proofs.Tallied.{tai-by-dtai}
 use Rattle.clock.proofs.Uts.{uts-plain}
 use Rattle.clock.proofs.Back.{back-plain}
-use Rattle.clock.proofs.Checks.{pass, stop, known-sure, sure-through}
+use Rattle.refusals.proofs.Checks.{pass, same-check}
+use Rattle.clock.proofs.Checks.{known-sure, sure-through}
 use Rattle.questions.specs.declared.by_day.Day.{Day}
 use Rattle.questions.specs.Said.{dtaiSaid, ListFor, DayFor, inCalendar, dtaiBy, taiBy, utsBy, earlyUts, microsBy, earlyMicros, nearDay, onDay, utcBy}
 use Rattle.questions.proofs.Told.{early-as-date, early-utc}
@@ -28,29 +29,22 @@ use Rattle.questions.proofs.Near.{near-from, from-near}
 
 -- ---- the checks
 
--- the same test, and where it passes the same after it
-same-check : {A : Type 0} {a a′ : Answer A} {test test′ : Bool} (n : ℕ) → test ≡ test′ → (test′ ≡ true → a ≡ a′) → require test n a ≡ require test′ n a′
-same-check {A} {a} {a′} {test} {test′} n e f = by-bool test′ (λ p. pass n (e ∙ p) ∙ f p ∙ sym (pass n p)) (λ p. stop a n (e ∙ p) ∙ sym (stop a′ n p))
-
-same-after : {A : Type 0} {a a′ : Answer A} (test : Bool) (n : ℕ) → (test ≡ true → a ≡ a′) → require test n a ≡ require test n a′
-same-after test n f = same-check n refl f
-
 module _ {s : Schedule} {well : Bool} {last : ℕ} (f : ListFor s well last) where
   same-date : {A : Type 0} (day : ℕ) (v v′ : A) → (wellFormed s ≡ true → firstDay ≤ day → day ≤ lastDay s → v ≡ v′)
       → atDate well last day v ≡ atDate (wellFormed s) (lastDay s) day v′
   same-date day v v′ e =
-      same-check notWellFormed (f .is-well) λ w.
-      same-after (leb firstDay day) before1972 λ p.
-      same-check notKnown (ap (λ Z. leb day Z) (f .is-last w)) λ q.
+      same-check (wellFormed s) notWellFormed (f .is-well) λ w.
+      same-check (leb firstDay day) before1972 refl λ p.
+      same-check (leb day (lastDay s)) notKnown (ap (λ Z. leb day Z) (f .is-last w)) λ q.
       ap given (e w (leb-true firstDay day p) (leb-true day (lastDay s) q))
 
   same-instant : {A : Type 0} (limit cutoff day t : ℕ) (a a′ : Answer A) → (wellFormed s ≡ true → firstDay ≤ day → day ≤ lastDay s → a ≡ a′)
       → atInstant well last limit cutoff day t a ≡ atInstant (wellFormed s) (lastDay s) limit cutoff day t a′
   same-instant limit cutoff day t a a′ e =
-      same-check notWellFormed (f .is-well) λ w.
-      same-after (leb firstDay day) before1972 λ p.
-      same-after (ltb t limit) noInstant λ _.
-      same-check notKnown (ap (λ Z. knownTo Z cutoff day t) (f .is-last w)) λ q.
+      same-check (wellFormed s) notWellFormed (f .is-well) λ w.
+      same-check (leb firstDay day) before1972 refl λ p.
+      same-check (ltb t limit) noInstant refl λ _.
+      same-check (knownTo (lastDay s) cutoff day t) notKnown (ap (λ Z. knownTo Z cutoff day t) (f .is-last w)) λ q.
       e w (leb-true firstDay day p) (sure-through (known-sure (lastDay s) cutoff day t q))
 
   -- a list's last day lies within the calendar
@@ -97,8 +91,8 @@ within day e Z t = cond (ltb t (dayLength e)) (onDay day t Z) (onDay (day + 1) (
 
 pub utc-said : {s : Schedule} {near : ℕ} {k : Day} (x : ℕ) → DayFor s near k → (wellFormed s ≡ true → near ≡ nearDay x (lastDay s)) → utcBy k near x ≡ taiToUtc s x
 utc-said {s} {near} {k} x f n =
-    same-check notWellFormed (f .list .is-well) λ w.
-    same-after (leb firstTai x) before1972 λ p.
+    same-check (wellFormed s) notWellFormed (f .list .is-well) λ w.
+    same-check (leb firstTai x) before1972 refl λ p.
     let enough = leb-true firstTai x p in
     let from = near-from s w x enough near (n w) in
     let through : near ≤ lastDay s = omega (arith, n w) in

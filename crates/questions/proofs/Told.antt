@@ -12,10 +12,12 @@ use Rattle.calendar.specs.Calendar.{firstDay}
 use Rattle.clock.specs.declared.Ending.{Ending}
 use Rattle.clock.specs.Days.{longDay, shortDay, dayLength}
 use Rattle.clock.specs.Known.{knownTo}
-use Rattle.clock.specs.Question.{Answer, given, refused, require, atDate, atInstant, atUtc}
+use Rattle.refusals.specs.Answer.{Answer, given, refused, require}
+use Rattle.clock.specs.Question.{atDate, atInstant, atUtc}
 use Rattle.questions.specs.Private.{told}
 use Rattle.clock.proofs.Tai.{length-least}
-use Rattle.clock.proofs.Checks.{known-before, known-below, known-after, pass}
+use Rattle.refusals.proofs.Checks.{pass}
+use Rattle.clock.proofs.Checks.{known-before, known-below, known-after}
 
 -- below the cut-off an instant is known on every known date, and the checks are those of the date
 pub known-on-date : (last cutoff day t : ℕ) → t < cutoff → knownTo last cutoff day t ≡ leb day last

@@ -10,7 +10,7 @@ use Rattle.schedule.specs.declared.Sign.{Sign}
 use Rattle.schedule.specs.declared.Sign.the-variants.{Negative}
 use Rattle.schedule.specs.Schedule.{Leap, noLeap}
 use Rattle.schedule.specs.Extends.{sameSign}
-use Rattle.clock.specs.Question.{Answer, given, refused}
+use Rattle.refusals.specs.Answer.{Answer, given, refused}
 
 -- of leaps in their order the first n lie at a month or before it, and the next one after it
 pub record ByMonth (ls : List Leap) (month n : ℕ) : Type 0 where

@@ -12,7 +12,8 @@ use Rattle.schedule.specs.Schedule.{Schedule, wellFormed}
 use Rattle.clock.specs.Days.{microsPerDay, firstDtai, dtai, ending, dayLength, taiWith}
 use Rattle.clock.specs.Smoothed.{uts, utcOf}
 use Rattle.clock.specs.Known.{lastDay, taiCutoff, utsCutoff, knownTo}
-use Rattle.clock.specs.Question.{Answer, given, require, atDate, atUtc, atUts, firstTai, Utc}
+use Rattle.refusals.specs.Answer.{Answer, given, require}
+use Rattle.clock.specs.Question.{atDate, atUtc, atUts, firstTai, Utc}
 use Rattle.questions.specs.declared.by_day.Day.{Day}
 
 -- ---- what a schedule says of a day

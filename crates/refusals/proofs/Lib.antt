@@ -1,2 +1,3 @@
--- The law of the refusals.
+-- The laws of the refusals.
 pub mod Numbers
+pub mod Checks

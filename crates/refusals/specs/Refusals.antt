@@ -1,4 +1,4 @@
--- "The eleven numbers", and those that the change requests add: the names of the refusals. An accepted answer carries 0.
+-- The numbers of the refusals by name, 01's and those that the change requests add. An accepted answer carries 0.
 -- Assumes nothing: these are definitions.
 use Prim.Native.Nat.{ℕ}
 
@@ -10,11 +10,11 @@ endsEarly = 1
 abbrev pub notAllowed : ℕ
 notAllowed = 2
 
--- 3: a gap malformed or over 999
+-- 3: a gap malformed or over 999 months
 abbrev pub badGap : ℕ
 badGap = 3
 
--- 4: past month 2400
+-- 4: past month 2400, January 2172
 abbrev pub pastLastMonth : ℕ
 pastLastMonth = 4
 
@@ -26,11 +26,11 @@ tooManyLeaps = 5
 abbrev pub afterEnd : ℕ
 afterEnd = 6
 
--- 7: the output is shorter than the list, the comparison of two, or what a line of a trace may print
+-- 7: the output is shorter than the list, or than the comparison of two lists, or than what a line of a trace may print
 abbrev pub outputShort : ℕ
 outputShort = 7
 
--- 8: before 1972
+-- 8: before 1972: an MJD under 41317, or a TAI under 10,000,000
 abbrev pub before1972 : ℕ
 before1972 = 8
 
@@ -42,7 +42,7 @@ noInstant = 9
 abbrev pub notKnown : ℕ
 notKnown = 10
 
--- 11: the schedule is not well formed
+-- 11: the schedule is not well formed, or no list in use, in a trace
 abbrev pub notWellFormed : ℕ
 notWellFormed = 11
 

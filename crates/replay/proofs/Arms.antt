@@ -14,7 +14,8 @@ use Rattle.schedule.specs.WordLayout.{meant}
 use Rattle.schedule.specs.Answers.{HandsReading, unwritten}
 use Rattle.schedule.proofs.Answers.{Fits, fits, no-room}
 use Rattle.text.specs.Read.{readText}
-use Rattle.clock.specs.Question.{Answer, given, refused, utcToUts}
+use Rattle.refusals.specs.Answer.{Answer, given, refused}
+use Rattle.clock.specs.Question.{utcToUts}
 use Rattle.clock.specs.Answers.{utsAnswer}
 use Rattle.clock.specs.declared.UtcMicros.{UtcMicros}
 use Rattle.clock.specs.declared.UtsAnswer.{UtsAnswer}

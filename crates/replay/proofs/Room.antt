@@ -14,7 +14,8 @@ use Rattle.schedule.specs.Schedule.{Schedule}
 use Rattle.schedule.specs.WordLayout.{meant}
 use Rattle.text.specs.Read.{readText}
 use Rattle.text.proofs.Numbers.{at-most-six}
-use Rattle.clock.specs.Question.{Answer, given, refused, utcToUts}
+use Rattle.refusals.specs.Answer.{Answer, given, refused}
+use Rattle.clock.specs.Question.{utcToUts}
 use Rattle.clock.specs.Known.{utsCutoff}
 use Rattle.clock.specs.Days.{ending}
 use Rattle.clock.specs.Smoothed.{uts}

@@ -16,7 +16,8 @@ use Rattle.schedule.specs.WordLayout.{leapWords, meant, wordsOf}
 use Rattle.schedule.proofs.Gaps.{blank-refused}
 use Rattle.schedule.proofs.Meant.{blank-stands}
 use Rattle.text.specs.Read.{readText}
-use Rattle.clock.specs.Question.{given, refused, utcToUts}
+use Rattle.refusals.specs.Answer.{given, refused}
+use Rattle.clock.specs.Question.{utcToUts}
 use Rattle.stream.specs.Stream.{after}
 use Rattle.stream.proofs.Streams.{after-both}
 use Rattle.replay.specs.Trace.{Line, list, store, reset, question, other, meaning}

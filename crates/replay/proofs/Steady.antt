@@ -15,7 +15,8 @@ use Rattle.schedule.proofs.Meant.{blank-stands, words-stand}
 use Rattle.format.proofs.Cases.{by-bool}
 use Rattle.text.specs.Read.{readText}
 use Rattle.text.proofs.Sound.{accepted-well-formed}
-use Rattle.clock.specs.Question.{Answer, given, refused, utcToUts, UTC-to-UTS}
+use Rattle.refusals.specs.Answer.{Answer, given, refused}
+use Rattle.clock.specs.Question.{utcToUts, UTC-to-UTS}
 use Rattle.clock.specs.Known.{utsCutoff}
 use Rattle.clock.specs.Days.{ending}
 use Rattle.clock.specs.Smoothed.{uts}

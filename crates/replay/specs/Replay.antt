@@ -10,7 +10,8 @@ use Rattle.format.specs.Refusal.{refusal}
 use Rattle.schedule.specs.Schedule.{blankSchedule}
 use Rattle.schedule.specs.WordLayout.{meant, wordsOf}
 use Rattle.text.specs.Read.{readText}
-use Rattle.clock.specs.Question.{Answer, given, refused, utcToUts}
+use Rattle.refusals.specs.Answer.{Answer, given, refused}
+use Rattle.clock.specs.Question.{utcToUts}
 use Rattle.stream.specs.Lines.{linesOf, rest}
 use Rattle.stream.specs.Stream.{Answering, printed, after}
 use Rattle.replay.specs.Trace.{Line, list, store, reset, question, other, meaning}

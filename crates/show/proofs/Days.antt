@@ -16,8 +16,9 @@ use Rattle.clock.specs.Days.{dtai}
 use Rattle.clock.proofs.Tally.{tally}
 use Rattle.clock.proofs.Tallied.{dtai-tallied}
 use Rattle.clock.specs.Known.{lastDay}
-use Rattle.clock.specs.Question.{dtaiOn, given, refused}
-use Rattle.clock.proofs.Checks.{pass}
+use Rattle.refusals.specs.Answer.{given, refused}
+use Rattle.clock.specs.Question.{dtaiOn}
+use Rattle.refusals.proofs.Checks.{pass}
 use Rattle.clock.proofs.Leaps.{not-yet, tally-none}
 
 -- every day of the stretch from a day to another has its DTAI

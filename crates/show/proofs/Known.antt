@@ -19,7 +19,7 @@ use Rattle.clock.specs.Question.{dtaiOn}
 use Rattle.clock.specs.Answers.{dtaiAnswer}
 use Rattle.clock.proofs.Tally.{tally}
 use Rattle.clock.proofs.Tallied.{dtai-tallied}
-use Rattle.clock.proofs.Checks.{pass}
+use Rattle.refusals.proofs.Checks.{pass}
 use Rattle.clock.proofs.Tai.{tally-few}
 use Rattle.questions.proofs.Signed.{minus-kept}
 

@@ -3,11 +3,11 @@
 use std::error::Error;
 use std::fmt;
 
-/// The fourteen refusals, each with its number.
+/// The refusals, each with its number.
 #[derive(Clone, Copy, Debug, PartialEq, Eq, PartialOrd, Ord, Hash)]
 #[repr(u8)]
 pub enum Refusal {
-    /// The list ends where a gap or mark is due.
+    /// The list ends early.
     EndsEarly = 1,
     /// A byte that is not allowed there.
     NotAllowed = 2,
@@ -17,16 +17,16 @@ pub enum Refusal {
     PastLastMonth = 4,
     /// More than 256 leaps.
     TooManyLeaps = 5,
-    /// Something after the expiry.
+    /// Something after the end.
     AfterEnd = 6,
-    /// The output is shorter than the list, the comparison or what a line of a
-    /// trace may print.
+    /// The output is shorter than the list, or than the comparison of two
+    /// lists, or than what a line of a trace may print.
     OutputShort = 7,
-    /// MJD under 41317, or TAI under 10,000,000.
+    /// Before 1972: an MJD under 41317, or a TAI under 10,000,000.
     Before1972 = 8,
-    /// The day has no such instant.
+    /// No such instant.
     NoInstant = 9,
-    /// Expired, or not yet known.
+    /// Expired or not yet known.
     NotKnown = 10,
     /// The schedule is not well formed.
     NotWellFormed = 11,
@@ -34,14 +34,14 @@ pub enum Refusal {
     Contradiction = 16,
     /// Rounding the expiry down to its month leaves a gap of 0.
     NoGap = 17,
-    /// No line of a trace. It is printed, as `!20`, and returned by no call.
+    /// No line of a trace; it is printed, and returned by no call.
     NoLine = 20,
 }
 
 use Refusal::*;
 
 impl Refusal {
-    /// All fourteen, by number.
+    /// All of them, by number.
     pub const ALL: [Refusal; 14] = [
         EndsEarly,
         NotAllowed,
@@ -59,7 +59,7 @@ impl Refusal {
         NoLine,
     ];
 
-    /// The refusal's number: 1 to 11, 16, 17 or 20.
+    /// The refusal's number.
     pub fn number(self) -> u8 {
         self as u8
     }
@@ -79,12 +79,14 @@ impl fmt::Display for Refusal {
             PastLastMonth => "past month 2400, January 2172",
             TooManyLeaps => "more than 256 leaps",
             AfterEnd => "something after the end",
-            OutputShort => "the output is shorter than the list, the comparison or a replayed line",
-            Before1972 => "before 1972",
+            OutputShort => {
+                "the output is shorter than the list, or than the comparison of two lists, or than what a line of a trace may print"
+            }
+            Before1972 => "before 1972: an MJD under 41317, or a TAI under 10,000,000",
             NoInstant => "no such instant",
             NotKnown => "expired or not yet known",
             NotWellFormed => "the schedule is not well formed",
-            Contradiction => "the lists contradict each other",
+            Contradiction => "two lists contradict each other",
             NoGap => "rounding the expiry down to its month leaves a gap of 0",
             NoLine => "no line of a trace",
         })

@@ -1,6 +1,6 @@
 -- `leap::leap_extends` meets its contract. Assumes nothing.
 use borrow.Author.Needs.{needs}
-use Rattle.clock.proofs.Checks.{passed, failed}
+use Rattle.refusals.proofs.Checks.{passed, failed}
 use Rattle.schedule.specs.WordLayout.{meant}
 use Rattle.leap.proofs.Extension.{longer-wrong, shorter-wrong, found-so, found-not}
 use Rattle.leap.proofs.leap_extends.Statement.{statement}

@@ -10,7 +10,7 @@ use Rattle.refusals.specs.Refusals.{notWellFormed}
 use Rattle.schedule.specs.WordLayout.{meant}
 use Rattle.clock.specs.Question.{dtaiOn}
 use Rattle.clock.specs.Answers.{dtaiAnswer, dtaiNumber, dtaiValue}
-use Rattle.clock.proofs.Checks.{passed, failed, stop}
+use Rattle.refusals.proofs.Checks.{passed, failed, stop}
 use Rattle.clock.proofs.Numbers.{dtai-told, hands-value}
 use Rattle.many.proofs.Answering.{ReadyFor, ready-for, Filling, start-one, turn-one, all-answered, hands-one, refuses-one}
 use Rattle.many.proofs.dtai.Statement.{statement}

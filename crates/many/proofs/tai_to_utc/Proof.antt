@@ -8,7 +8,7 @@ use borrow.Author.Needs.{needs}
 use Rattle.refusals.specs.Refusals.{notWellFormed}
 use Rattle.schedule.specs.WordLayout.{meant}
 use Rattle.clock.specs.Question.{taiToUtc}
-use Rattle.clock.proofs.Checks.{passed, failed, stop}
+use Rattle.refusals.proofs.Checks.{passed, failed, stop}
 use Rattle.clock.proofs.Numbers.{hands-utc}
 use Rattle.questions.specs.Said.{nearDay}
 use Rattle.many.proofs.Answering.{ReadyFor, ready-for, FillingUtc, start-utc, turn-utc, all-utc, hands-utcs, refuses-utcs}

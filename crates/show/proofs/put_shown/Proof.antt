@@ -2,7 +2,7 @@
 use borrow.Author.Needs.{needs}
 use native.Mathlib.Omega.{arith}
 use Rattle.format.proofs.Putting.{few}
-use Rattle.clock.proofs.Checks.{passed, failed}
+use Rattle.refusals.proofs.Checks.{passed, failed}
 use Rattle.show.specs.Show.{shown}
 use Rattle.show.specs.Private.{shownFrom}
 use Rattle.show.proofs.put_shown.Statement.{statement}

@@ -9,7 +9,7 @@ use Rattle.clock.specs.Days.{dayLength}
 use Rattle.clock.specs.Known.{taiCutoff}
 use Rattle.clock.specs.Answers.{utcAnswer}
 use Rattle.clock.proofs.Tai.{length-least}
-use Rattle.clock.proofs.Checks.{pass}
+use Rattle.refusals.proofs.Checks.{pass}
 use Rattle.questions.specs.Said.{onDay}
 use Rattle.questions.proofs.Told.{known-on-date}
 use Rattle.questions.proofs.by_day.from_start.Statement.{statement}

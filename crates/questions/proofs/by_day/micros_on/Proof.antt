@@ -4,7 +4,7 @@ use borrow.Author.Needs.{needs}
 use Rattle.clock.specs.declared.MicrosAnswer.the-variants.{Given}
 use Rattle.clock.specs.Smoothed.{nanosPerDay, utcOf}
 use Rattle.clock.specs.Known.{nanosCutoff}
-use Rattle.clock.specs.Question.{given}
+use Rattle.refusals.specs.Answer.{given}
 use Rattle.clock.specs.Answers.{microsAnswer}
 use Rattle.questions.proofs.Told.{instant-then, then-passed, then-refused}
 use Rattle.questions.proofs.by_day.micros_on.Statement.{statement}

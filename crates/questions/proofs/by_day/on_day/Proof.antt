@@ -3,7 +3,7 @@ use mathlib.Core.Path.{sym, ap, _∙_}
 use borrow.Author.Needs.{needs}
 use Rattle.refusals.specs.Refusals.{notKnown}
 use Rattle.clock.specs.Answers.{utcAnswer}
-use Rattle.clock.proofs.Checks.{pass, stop}
+use Rattle.refusals.proofs.Checks.{pass, stop}
 use Rattle.questions.proofs.by_day.on_day.Statement.{statement}
 use Rattle.questions.proofs.by_day.on_day.Tie as tie
 

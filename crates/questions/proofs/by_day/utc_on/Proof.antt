@@ -8,7 +8,7 @@ use Rattle.refusals.specs.Refusals.{before1972, notKnown, notWellFormed}
 use Rattle.calendar.specs.Calendar.{firstDay}
 use Rattle.clock.specs.Question.{firstTai}
 use Rattle.clock.specs.Answers.{utcAnswer}
-use Rattle.clock.proofs.Checks.{pass, stop}
+use Rattle.refusals.proofs.Checks.{pass, stop}
 use Rattle.questions.specs.Said.{inCalendar, fromStart}
 use Rattle.questions.proofs.by_day.utc_on.Statement.{statement}
 use Rattle.questions.proofs.by_day.utc_on.Tie as tie

@@ -4,7 +4,7 @@ use native.Mathlib.Omega.{arith}
 use borrow.Author.Tests.{le-leb, lt-leb, not-true, not-false}
 use Rattle.refusals.specs.Refusals.{before1972, notKnown, notWellFormed}
 use Rattle.calendar.specs.Calendar.{firstDay}
-use Rattle.clock.proofs.Checks.{pass, stop}
+use Rattle.refusals.proofs.Checks.{pass, stop}
 use Rattle.questions.proofs.days.date_refusal.Statement.{statement}
 use Rattle.questions.proofs.days.date_refusal.Tie as tie
 

@@ -5,7 +5,8 @@ use borrow.Author.Needs.{needs}
 use borrow.Author.Tests.{le-leb, lt-leb, le-ltb, lt-ltb, not-true, not-false}
 use Rattle.refusals.specs.Refusals.{before1972, noInstant, notKnown, notWellFormed}
 use Rattle.calendar.specs.Calendar.{firstDay}
-use Rattle.clock.proofs.Checks.{known-sure, sure-through, pass, stop, passed, failed}
+use Rattle.refusals.proofs.Checks.{pass, stop, passed, failed}
+use Rattle.clock.proofs.Checks.{known-sure, sure-through}
 use Rattle.questions.proofs.instants.instant_refusal.Statement.{statement}
 use Rattle.questions.proofs.instants.instant_refusal.Tie as tie
 

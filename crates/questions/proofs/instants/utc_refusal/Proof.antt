@@ -5,7 +5,7 @@ use borrow.Author.Needs.{needs}
 use borrow.Author.Tests.{lt-ltb, le-ltb}
 use Rattle.refusals.specs.Refusals.{noInstant}
 use Rattle.clock.specs.Days.{longDay, dayLength}
-use Rattle.clock.proofs.Checks.{pass, stop}
+use Rattle.refusals.proofs.Checks.{pass, stop}
 use Rattle.clock.proofs.Tai.{length-least}
 use Rattle.questions.proofs.Told.{early-utc, instant-then, then-passed, then-refused, told-refused}
 use Rattle.questions.proofs.instants.utc_refusal.Statement.{statement}

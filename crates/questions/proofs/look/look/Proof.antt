@@ -8,7 +8,7 @@ use borrow.Author.Needs.{needs}
 use Rattle.schedule.specs.declared.Sign.{Sign}
 use Rattle.schedule.specs.Schedule.{Leap}
 use Rattle.schedule.specs.WordLayout.{countWord, meant}
-use Rattle.clock.proofs.Checks.{passed, failed}
+use Rattle.refusals.proofs.Checks.{passed, failed}
 use Rattle.schedule.proofs.Meant.{count-is}
 use Rattle.questions.proofs.LaidOut.{leap-meant, month-meant}
 use Rattle.questions.proofs.Looked.{ahead-some, ahead-none}
