@@ -3,19 +3,8 @@
 use Prim.Native.Nat.{ℕ}
 use mathlib.Core.List.{List}
 use Rattle.format.specs.Decimal.{decimal, signed}
-use Rattle.clock.specs.Question.{
-  Answer,
-  given,
-  refused,
-  Question,
-  DTAI,
-  UTC-to-TAI,
-  TAI-to-UTC,
-  UTC-to-UTS,
-  UTS-to-UTC,
-  Value,
-  ask,
-}
+use Rattle.refusals.specs.Answer.{Answer, given, refused}
+use Rattle.clock.specs.Question.{Question, DTAI, UTC-to-TAI, TAI-to-UTC, UTC-to-UTS, UTS-to-UTC, Value, ask}
 use Rattle.format.specs.Lines.{twoNumbers}
 use Rattle.format.specs.Refusal.{refusal}
 use Rattle.schedule.specs.Schedule.{Schedule}

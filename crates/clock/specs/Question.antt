@@ -1,4 +1,4 @@
--- The five questions: what is checked, in the order of "The eleven numbers", and what is answered.
+-- The five questions: what is checked, in the order in which the paper has the refusals, and what is answered.
 -- Assumes nothing: these are definitions.
 use mathlib.Core.Bool.{Bool}
 use Prim.Native.Nat.{ℕ, _-_}

@@ -1,5 +1,4 @@
 -- The laws of question lines.
-mod Others
 mod Fields
 mod Unhexed
 mod Unbroken

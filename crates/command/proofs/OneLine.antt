@@ -21,10 +21,16 @@ use Rattle.nybbles.specs.Write.{nybblesOf}
 use Rattle.refusals.specs.Answer.{Answer, given, refused}
 use Rattle.clock.specs.Question.{Question, DTAI, UTC-to-TAI, TAI-to-UTC, UTC-to-UTS, UTS-to-UTC, Value, ask}
 use Rattle.line.specs.declared.words.Word.{Word}
-use Rattle.line.specs.declared.words.Word.the-variants.{Show, Nybbles, Text, Dtai, Tai, Utc, Uts, Unsmooth, Compare, Longer, Other}
+use Rattle.line.specs.declared.words.Word.the-variants.{Other}
+use Rattle.line.specs.declared.words.Form.{Form}
+use Rattle.line.specs.declared.words.Form.the-variants as form
+use Rattle.line.specs.declared.words.ListWord.{ListWord}
+use Rattle.line.specs.declared.words.ListWord.the-variants as list
+use Rattle.line.specs.declared.words.PairWord.{PairWord}
+use Rattle.line.specs.declared.words.PairWord.the-variants as pair
 use Rattle.format.specs.Lines.{newline, spaceByte}
 use Rattle.format.specs.Refusal.{refusalAt}
-use Rattle.line.specs.Words.{wordOf, expected}
+use Rattle.line.specs.Words.{wordOf, formOf}
 use Rattle.stream.specs.Lines.{butLast, linesOf}
 use Rattle.stream.specs.Stream.{printed}
 use Rattle.stream.proofs.Lines.{not-last}
@@ -33,7 +39,7 @@ use Rattle.answers.specs.Lists.{listOf, aboutRead}
 use Rattle.answers.specs.Times.{valuesOf, told, askedOf, askedUnder}
 use Rattle.schedule.specs.Answers.{Reading}
 use Rattle.schedule.specs.Schedule.{Schedule}
-use Rattle.command.specs.Answer.{aboutNumber, aboutOne, aboutTwo, textAnswer, withOne, withTwo, withThree, answerFor, answerParts, maxLine, tooLong, answerTo}
+use Rattle.command.specs.Answer.{oneField, twoFields, threeFields, aNumber, ofList, ofHex, ofNumber, ofTime, ofPair, answerBy, answerFor, answerParts, maxLine, tooLong, answerTo}
 use Rattle.command.specs.Lines.{answerLine, asking}
 use Rattle.command.proofs.TwoLists.{in-reading, in-comparison, in-longer}
 use Rattle.command.proofs.Unbroken.{in-text, in-expected, in-shown}
@@ -60,67 +66,53 @@ in-asked list q = in-read (readText (listOf list)) (askedOf q) (λ s. in-told (v
 
 -- ---- answers to a word and its fields
 
-module _ (w : Word) where
-  in-number : (r : Number) (f : ℕ → List ℕ) → ((n : ℕ) → Unbroken (f n)) → Unbroken (aboutNumber r (expected w) f)
-  in-number (Given n) f u = u n
-  in-number Missing f u = in-expected w
+module _ {e : List ℕ} (u : Unbroken e) where
+  in-number : (r : Number) (f : ℕ → List ℕ) → ((n : ℕ) → Unbroken (f n)) → Unbroken (aNumber e r f)
+  in-number (Given n) f v = v n
+  in-number Missing f v = u
 
-  in-one : (list x : List ℕ) (q : ℕ → Question) → Unbroken (aboutOne w list x q)
-  in-one list x q = in-number (numberOf x) (λ n. askedUnder list (q n)) (λ n. in-asked list (q n))
+  in-one : (fields : List (List ℕ)) (f : List ℕ → List ℕ) → ((x : List ℕ) → Unbroken (f x)) → Unbroken (oneField e fields f)
+  in-one [] f v = u
+  in-one (x ∷ []) f v = v x
+  in-one (x ∷ y ∷ more) f v = u
 
-  in-two : (list x y : List ℕ) (q : ℕ → ℕ → Question) → Unbroken (aboutTwo w list x y q)
-  in-two list x y q =
-      in-number (numberOf x) (λ n. aboutNumber (numberOf y) (expected w) (λ m. askedUnder list (q n m)))
-      (λ n. in-number (numberOf y) (λ m. askedUnder list (q n m)) (λ m. in-asked list (q n m)))
+  in-two : (fields : List (List ℕ)) (f : List ℕ → List ℕ → List ℕ) → ((x y : List ℕ) → Unbroken (f x y)) → Unbroken (twoFields e fields f)
+  in-two [] f v = u
+  in-two (x ∷ fields) f v = in-one fields (f x) (v x)
 
-with-one : (w : Word) (x : List ℕ) → Unbroken (withOne false w x)
-unfolding withOne textAnswer
-with-one Show x = in-read (readText (listOf x)) (shown false) in-shown
-with-one Nybbles x = in-read (readText (listOf x)) (λ s. hex (nybblesOf s)) (λ s. in-hex (nybblesOf s))
-with-one Text x = either (isHex x) (in-read (readNybbles (unhex x)) textOf in-text) (in-expected Text)
-with-one Dtai x = in-expected Dtai
-with-one Tai x = in-expected Tai
-with-one Utc x = in-expected Utc
-with-one Uts x = in-expected Uts
-with-one Unsmooth x = in-expected Unsmooth
-with-one Compare x = in-expected Compare
-with-one Longer x = in-expected Longer
-with-one Other x = in-expected Other
+  in-three : (fields : List (List ℕ)) (f : List ℕ → List ℕ → List ℕ → List ℕ) → ((x y z : List ℕ) → Unbroken (f x y z)) → Unbroken (threeFields e fields f)
+  in-three [] f v = u
+  in-three (x ∷ fields) f v = in-two fields (f x) (v x)
 
-with-two : (w : Word) (x y : List ℕ) → Unbroken (withTwo false w x y)
-unfolding withTwo
-with-two Show x y = in-expected Show
-with-two Nybbles x y = in-expected Nybbles
-with-two Text x y = in-expected Text
-with-two Dtai x y = in-one Dtai x y DTAI
-with-two Tai x y = in-expected Tai
-with-two Utc x y = in-one Utc x y TAI-to-UTC
-with-two Uts x y = in-expected Uts
-with-two Unsmooth x y = in-expected Unsmooth
-with-two Compare x y = in-comparison (listOf x) (listOf y)
-with-two Longer x y = in-longer (listOf x) (listOf y)
-with-two Other x y = in-expected Other
+  of-hex : (x : List ℕ) → Unbroken (ofHex e x)
+  unfolding ofHex
+  of-hex x = either (isHex x) (in-read (readNybbles (unhex x)) textOf in-text) u
 
-with-three : (w : Word) (x y z : List ℕ) → Unbroken (withThree w x y z)
-unfolding withThree
-with-three Show x y z = in-expected Show
-with-three Nybbles x y z = in-expected Nybbles
-with-three Text x y z = in-expected Text
-with-three Dtai x y z = in-expected Dtai
-with-three Tai x y z = in-two Tai x y z UTC-to-TAI
-with-three Utc x y z = in-expected Utc
-with-three Uts x y z = in-two Uts x y z UTC-to-UTS
-with-three Unsmooth x y z = in-two Unsmooth x y z UTS-to-UTC
-with-three Compare x y z = in-expected Compare
-with-three Longer x y z = in-expected Longer
-with-three Other x y z = in-expected Other
+of-list : (w : ListWord) (x : List ℕ) → Unbroken (ofList false w x)
+unfolding ofList
+of-list list.Show x = in-read (readText (listOf x)) (shown false) in-shown
+of-list list.Nybbles x = in-read (readText (listOf x)) (λ s. hex (nybblesOf s)) (λ s. in-hex (nybblesOf s))
+
+of-pair : (w : PairWord) (x y : List ℕ) → Unbroken (ofPair false w x y)
+unfolding ofPair
+of-pair pair.Compare x y = in-comparison (listOf x) (listOf y)
+of-pair pair.Longer x y = in-longer (listOf x) (listOf y)
+
+by-form : {e : List ℕ} → Unbroken e → (r : Form) (fields : List (List ℕ)) → Unbroken (answerBy false e r fields)
+by-form u (form.List w) fields = in-one u fields (ofList false w) (of-list w)
+by-form {e} u form.Hex fields = in-one u fields (ofHex e) (of-hex u)
+by-form {e} u (form.ListAndNumber w) fields =
+    in-two u fields (λ x y. aNumber e (numberOf y) (λ n. askedUnder x (ofNumber w n))) (λ x y. in-number u (numberOf y) (λ n. askedUnder x (ofNumber w n)) (λ n. in-asked x (ofNumber w n)))
+by-form {e} u (form.ListAndTime w) fields =
+    in-three u fields (λ x y z. aNumber e (numberOf y) (λ day. aNumber e (numberOf z) (λ t. askedUnder x (ofTime w day t))))
+    (λ x y z. in-number u (numberOf y) (λ day. aNumber e (numberOf z) (λ t. askedUnder x (ofTime w day t)))
+    (λ day. in-number u (numberOf z) (λ t. askedUnder x (ofTime w day t)) (λ t. in-asked x (ofTime w day t))))
+by-form u (form.TwoLists w) fields = in-two u fields (ofPair false w) (of-pair w)
+by-form u form.None fields = u
 
 with-fields : (w : Word) (fields : List (List ℕ)) → Unbroken (answerFor false w fields)
-with-fields w [] = in-expected w
-with-fields w (x ∷ []) = with-one w x
-with-fields w (x ∷ y ∷ []) = with-two w x y
-with-fields w (x ∷ y ∷ z ∷ []) = with-three w x y z
-with-fields w (x ∷ y ∷ z ∷ u ∷ us) = in-expected w
+unfolding answerFor
+with-fields w fields = by-form (in-expected w) (formOf w) fields
 
 in-parts : (ps : List (List ℕ)) → Unbroken (answerParts false ps)
 in-parts [] = in-expected Other

@@ -1,24 +1,34 @@
--- What the lines of two lists' words are answered, worked by hand, as one table under one claim.
+-- What the lines of each word are answered, worked by hand, as two tables.
 -- Assumes nothing.
 use mathlib.Core.Path.{_≡_, refl}
 use mathlib.Core.Bool.{Bool, true, false}
 use mathlib.Core.List.{List, [], _∷_}
 use Prim.Native.String.{String}
-use Rattle.format.specs.Ascii.{ascii}
-use Rattle.format.specs.Decimal.{decimal, digitsIn}
+use Rattle.format.specs.Ascii.{ascii, within}
+use Rattle.format.specs.Decimal.{decimal, digitsIn, allDigits, valueAfter, numberOf}
 use Rattle.format.specs.Lines.{between}
 use Rattle.format.specs.Parts.{same, parts}
-use Rattle.calendar.specs.Calendar.{isLeapYear, monthLengths, daysInMonth, monthStart}
-use Rattle.schedule.specs.Schedule.{isExpired}
+use Rattle.calendar.specs.Calendar.{isLeapYear, monthLengths, daysInMonth, monthStart, monthOf, startsMonth, monthAt}
+use Rattle.schedule.specs.Schedule.{isExpired, gapsFit, lastLeap}
 use Rattle.schedule.specs.Answers.{byReading}
 use Rattle.schedule.specs.Extends.{below, sameLeaps}
 use Rattle.text.specs.Read.{readFrom, readText}
 use Rattle.compare.specs.Longer.{chosenOf}
 use Rattle.compare.specs.Compare.{hasLeap, leapMark, lineAt, monthLines, expiryLines, linesOf, relationBy, joined}
-use Rattle.format.specs.Refusal.{refusal}
-use Rattle.line.specs.Words.{wordOf, usage, expected}
+use Rattle.format.specs.Refusal.{refusal, refusalAt}
+use Rattle.line.specs.Words.{wordOf, formOf, usage, expected}
 use Rattle.answers.specs.Lists.{listOf, longerBy}
-use Rattle.command.specs.Answer.{withOne, withTwo, withThree, answerTo}
+use Rattle.format.specs.Hex.{hex, nybbleOf, allHexDigits, unhex}
+use Rattle.calendar.specs.Greatest.{greatest}
+use Rattle.text.specs.Write.{digits, textFrom, textOf}
+use Rattle.nybbles.specs.Codes.{nybbles, single, wide, codesOf}
+use Rattle.nybbles.specs.Read.{fault, after, readCodes, readNybbles}
+use Rattle.clock.specs.Days.{dtai, taiWith, tai}
+use Rattle.clock.specs.Known.{fullyKnown, knownTo, taiEnd}
+use Rattle.clock.specs.Smoothed.{uts}
+use Rattle.answers.specs.Times.{askedOf, askedUnder}
+use Rattle.show.specs.Show.{date, dateOf, stretch, stretches, shown}
+use Rattle.command.specs.Answer.{ofList, ofHex, ofPair, answerFor, answerTo}
 
 -- a row: a line, whether its answer may have several lines, and the answer
 pub data Row : Type 0 where
@@ -51,5 +61,28 @@ table =
 
 -- every row of the table holds of the definitions
 pub worked : SayAll table
-unfolding monthStart daysInMonth monthLengths isLeapYear answerTo parts wordOf same usage expected withOne withTwo withThree listOf longerBy refusal readText readFrom byReading joined linesOf monthLines lineAt hasLeap leapMark isExpired expiryLines relationBy between decimal digitsIn below sameLeaps chosenOf
+unfolding monthStart daysInMonth monthLengths isLeapYear answerTo parts wordOf same usage expected formOf answerFor ofList ofHex ofPair listOf longerBy refusal readText readFrom byReading joined linesOf monthLines lineAt hasLeap leapMark isExpired expiryLines relationBy between decimal digitsIn below sameLeaps chosenOf within allDigits valueAfter numberOf hex nybbleOf allHexDigits unhex refusalAt monthOf startsMonth monthAt greatest gapsFit lastLeap digits textFrom textOf nybbles single wide codesOf fault after readCodes readNybbles dtai taiWith tai fullyKnown knownTo taiEnd uts askedOf askedUnder date dateOf stretch stretches shown
 worked = (refl, (refl, (refl, (refl, (refl, (refl, (refl, (refl, (refl, (refl, (refl, (refl, (refl, tt)))))))))))))
+
+-- each time question on the first day, or from where on it is refused; a nybble list; a form takes its fields and no others
+abbrev pub others : List Row
+others =
+    answers true "text 90F4" "6+5?"
+    ∷ answers true "dtai 5? 41317" "10"
+    ∷ answers true "tai 5? 41317 86401000000" "!9"
+    ∷ answers true "utc 5? 9999999" "!8"
+    ∷ answers true "uts 5? 41317 1" "1000"
+    ∷ answers true "unsmooth 5? 41317 86400000000000" "!9"
+    -- a form takes its fields, and no others
+    ∷ answers true "show" "? expected: show LIST"
+    ∷ answers true "text 90f" "? expected: text HEX"
+    ∷ answers true "dtai 5?" "? expected: dtai LIST MJD"
+    ∷ answers true "utc 5? x" "? expected: utc LIST TAI"
+    ∷ answers true "tai 5? 41317 1 1" "? expected: tai LIST MJD MICROS"
+    ∷ answers true "now" "? expected: show, nybbles, text, dtai, tai, utc, uts, unsmooth, compare or longer"
+    ∷ []
+
+-- every row of it holds too
+pub worked-others : SayAll others
+unfolding monthStart daysInMonth monthLengths isLeapYear answerTo parts wordOf same usage expected formOf answerFor ofList ofHex ofPair listOf longerBy refusal readText readFrom byReading joined linesOf monthLines lineAt hasLeap leapMark isExpired expiryLines relationBy between decimal digitsIn below sameLeaps chosenOf within allDigits valueAfter numberOf hex nybbleOf allHexDigits unhex refusalAt monthOf startsMonth monthAt greatest gapsFit lastLeap digits textFrom textOf nybbles single wide codesOf fault after readCodes readNybbles dtai taiWith tai fullyKnown knownTo taiEnd uts askedOf askedUnder date dateOf stretch stretches shown
+worked-others = (refl, (refl, (refl, (refl, (refl, (refl, (refl, (refl, (refl, (refl, (refl, (refl, tt))))))))))))

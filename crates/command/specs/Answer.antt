@@ -17,76 +17,83 @@ use Rattle.text.specs.Write.{textOf}
 use Rattle.nybbles.specs.Read.{readNybbles}
 use Rattle.clock.specs.Question.{Question, DTAI, UTC-to-TAI, TAI-to-UTC, UTC-to-UTS, UTS-to-UTC}
 use Rattle.line.specs.declared.words.Word.{Word}
-use Rattle.line.specs.declared.words.Word.the-variants.{Show, Nybbles, Text, Dtai, Tai, Utc, Uts, Unsmooth, Compare, Longer, Other}
+use Rattle.line.specs.declared.words.Word.the-variants.{Other}
+use Rattle.line.specs.declared.words.Form.{Form}
+use Rattle.line.specs.declared.words.Form.the-variants as form
+use Rattle.line.specs.declared.words.ListWord.{ListWord}
+use Rattle.line.specs.declared.words.ListWord.the-variants as list
+use Rattle.line.specs.declared.words.NumberWord.{NumberWord}
+use Rattle.line.specs.declared.words.NumberWord.the-variants as number
+use Rattle.line.specs.declared.words.TimeWord.{TimeWord}
+use Rattle.line.specs.declared.words.TimeWord.the-variants as time
+use Rattle.line.specs.declared.words.PairWord.{PairWord}
+use Rattle.line.specs.declared.words.PairWord.the-variants as pair
 use Rattle.format.specs.Lines.{spaceByte}
-use Rattle.line.specs.Words.{wordOf, expected}
+use Rattle.line.specs.Words.{wordOf, formOf, expected}
 use Rattle.show.specs.Show.{shown}
 use Rattle.answers.specs.Lists.{aboutRead, aboutList, nybblesAnswer, comparisonAnswer, longerAnswer}
 use Rattle.answers.specs.Times.{askedUnder}
 
--- an answer about the number that a field gives, or `otherwise` where it gives none
-abbrev pub aboutNumber : Number → List ℕ → (ℕ → List ℕ) → List ℕ
-aboutNumber (Given n) otherwise f = f n
-aboutNumber Missing otherwise f = otherwise
+-- ---- the fields of a form: what is answered about them, and e where they are others
+
+abbrev pub oneField : List ℕ → List (List ℕ) → (List ℕ → List ℕ) → List ℕ
+oneField e [] f = e
+oneField e (x ∷ []) f = f x
+oneField e (x ∷ y ∷ more) f = e
+
+abbrev pub twoFields : List ℕ → List (List ℕ) → (List ℕ → List ℕ → List ℕ) → List ℕ
+twoFields e [] f = e
+twoFields e (x ∷ fields) f = oneField e fields (f x)
+
+abbrev pub threeFields : List ℕ → List (List ℕ) → (List ℕ → List ℕ → List ℕ → List ℕ) → List ℕ
+threeFields e [] f = e
+threeFields e (x ∷ fields) f = twoFields e fields (f x)
+
+-- the number that a field gives
+abbrev pub aNumber : List ℕ → Number → (ℕ → List ℕ) → List ℕ
+aNumber e (Given n) f = f n
+aNumber e Missing f = e
+
+-- ---- what each word is answered
+
+-- a list alone
+unfoldable pub ofList : Bool → ListWord → List ℕ → List ℕ
+ofList lines list.Show x = aboutList x (shown lines)
+ofList lines list.Nybbles x = nybblesAnswer x
 
 -- a nybble list, in hex, as text
-unfoldable pub textAnswer : List ℕ → List ℕ
-textAnswer field = cond (isHex field) (aboutRead (readNybbles (unhex field)) textOf) (expected Text)
+unfoldable pub ofHex : List ℕ → List ℕ → List ℕ
+ofHex e field = cond (isHex field) (aboutRead (readNybbles (unhex field)) textOf) e
 
--- what is asked about one number, or about two, under a list
-abbrev pub aboutOne : Word → List ℕ → List ℕ → (ℕ → Question) → List ℕ
-aboutOne w list x q = aboutNumber (numberOf x) (expected w) (λ n. askedUnder list (q n))
+-- a list and a number
+abbrev pub ofNumber : NumberWord → ℕ → Question
+ofNumber number.Dtai day = DTAI day
+ofNumber number.Utc tai = TAI-to-UTC tai
 
-abbrev pub aboutTwo : Word → List ℕ → List ℕ → List ℕ → (ℕ → ℕ → Question) → List ℕ
-aboutTwo w list x y q = aboutNumber (numberOf x) (expected w) (λ n. aboutNumber (numberOf y) (expected w) (λ m. askedUnder list (q n m)))
+-- a list, a day and a time of it
+abbrev pub ofTime : TimeWord → ℕ → ℕ → Question
+ofTime time.Tai day t = UTC-to-TAI day t
+ofTime time.Uts day t = UTC-to-UTS day t
+ofTime time.Unsmooth day u = UTS-to-UTC day u
 
--- the answer to a word with one field, with two, and with three
-unfoldable pub withOne : Bool → Word → List ℕ → List ℕ
-withOne lines Show list = aboutList list (shown lines)
-withOne lines Nybbles list = nybblesAnswer list
-withOne lines Text field = textAnswer field
-withOne lines Dtai x = expected Dtai
-withOne lines Tai x = expected Tai
-withOne lines Utc x = expected Utc
-withOne lines Uts x = expected Uts
-withOne lines Unsmooth x = expected Unsmooth
-withOne lines Compare x = expected Compare
-withOne lines Longer x = expected Longer
-withOne lines Other x = expected Other
+-- two lists
+unfoldable pub ofPair : Bool → PairWord → List ℕ → List ℕ → List ℕ
+ofPair lines pair.Compare x y = comparisonAnswer lines x y
+ofPair lines pair.Longer x y = longerAnswer x y
 
-unfoldable pub withTwo : Bool → Word → List ℕ → List ℕ → List ℕ
-withTwo lines Show list x = expected Show
-withTwo lines Nybbles list x = expected Nybbles
-withTwo lines Text list x = expected Text
-withTwo lines Dtai list x = aboutOne Dtai list x DTAI
-withTwo lines Tai list x = expected Tai
-withTwo lines Utc list x = aboutOne Utc list x TAI-to-UTC
-withTwo lines Uts list x = expected Uts
-withTwo lines Unsmooth list x = expected Unsmooth
-withTwo lines Compare list other = comparisonAnswer lines list other
-withTwo lines Longer list other = longerAnswer list other
-withTwo lines Other list x = expected Other
+-- ---- the answer to a word with the fields after it
 
-unfoldable pub withThree : Word → List ℕ → List ℕ → List ℕ → List ℕ
-withThree Show list x y = expected Show
-withThree Nybbles list x y = expected Nybbles
-withThree Text list x y = expected Text
-withThree Dtai list x y = expected Dtai
-withThree Tai list x y = aboutTwo Tai list x y UTC-to-TAI
-withThree Utc list x y = expected Utc
-withThree Uts list x y = aboutTwo Uts list x y UTC-to-UTS
-withThree Unsmooth list x y = aboutTwo Unsmooth list x y UTS-to-UTC
-withThree Compare list x y = expected Compare
-withThree Longer list x y = expected Longer
-withThree Other list x y = expected Other
+abbrev pub answerBy : Bool → List ℕ → Form → List (List ℕ) → List ℕ
+answerBy lines e (form.List w) fields = oneField e fields (ofList lines w)
+answerBy lines e form.Hex fields = oneField e fields (ofHex e)
+answerBy lines e (form.ListAndNumber w) fields = twoFields e fields (λ x y. aNumber e (numberOf y) (λ n. askedUnder x (ofNumber w n)))
+answerBy lines e (form.ListAndTime w) fields =
+    threeFields e fields (λ x y z. aNumber e (numberOf y) (λ day. aNumber e (numberOf z) (λ t. askedUnder x (ofTime w day t))))
+answerBy lines e (form.TwoLists w) fields = twoFields e fields (ofPair lines w)
+answerBy lines e form.None fields = e
 
--- the answer to a word with the fields after it
-abbrev pub answerFor : Bool → Word → List (List ℕ) → List ℕ
-answerFor lines w [] = expected w
-answerFor lines w (x ∷ []) = withOne lines w x
-answerFor lines w (x ∷ y ∷ []) = withTwo lines w x y
-answerFor lines w (x ∷ y ∷ z ∷ []) = withThree w x y z
-answerFor lines w (x ∷ y ∷ z ∷ u ∷ us) = expected w
+unfoldable pub answerFor : Bool → Word → List (List ℕ) → List ℕ
+answerFor lines w fields = answerBy lines (expected w) (formOf w) fields
 
 -- the answer to the parts of a line between its spaces, of which none is left out where it is empty: a word, and the fields after it
 abbrev pub answerParts : Bool → List (List ℕ) → List ℕ

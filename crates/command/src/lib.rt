@@ -4,13 +4,14 @@ ghost use lib.ListN.{length};
 ghost use Rattle.format.specs.Output.{PutsUpTo};
 ghost use Rattle.format.specs.Parts.{parts};
 ghost use Rattle.format.specs.Lines.{spaceByte};
-ghost use Rattle.command.specs.Answer.{maxLine, maxAnswer, withOne, withTwo, withThree, answerFor, answerTo, Answered};
-ghost use Rattle.command.specs.Private.{withNumber};
+ghost use Rattle.command.specs.Answer.{maxLine, maxAnswer, oneField, twoFields, aNumber, ofList, ofNumber, ofTime, ofPair, answerFor, answerTo, Answered};
+ghost use Rattle.format.specs.Decimal.{numberOf};
+ghost use Rattle.line.specs.Words.{expected};
+ghost use Rattle.answers.specs.Times.{askedUnder};
 ghost use Rattle.stream.specs.Lines.{linesOf};
 ghost use Rattle.stream.specs.Stream.{answered, LinesAnswered};
 ghost use Rattle.command.specs.Lines.{asking};
-ghost use mathlib.Core.Bool.{Bool};
-ghost use mathlib.Core.List.{_∷_};
+ghost use mathlib.Core.List.{[], _∷_};
 
 mod lists; // lists.rt: a list as its stretches, and a nybble list as text
 
@@ -25,7 +26,13 @@ use format::decimal::read_decimal;
 use format::output::put;
 use format::output::put_all;
 use format::parts::part_end;
+use line::words::Form;
+use line::words::ListWord;
+use line::words::NumberWord;
+use line::words::PairWord;
+use line::words::TimeWord;
 use line::words::Word;
+use line::words::form_of;
 use line::words::put_expected;
 use line::words::word_of;
 use stream::Step;
@@ -36,86 +43,141 @@ pub const MAX_LINE: usize = 8192;
 // No answer is longer than this.
 const MAX_ANSWER: usize = 20_000;
 
+// Puts the answer to a word that takes a list alone.
+fn put_of_list(out: &mut [u8], at: usize, lines: bool, w: ListWord, list: &[u8]) -> usize
+    ensures { λ r. ⌜ PutsUpTo maxAnswer (now (out .entry)) (now (out .exit)) at r (ofList lines w (now (list .entry))) ⌝ }
+{
+    match w {
+        ListWord::Show => lists::put_list_shown(out, at, lines, list),
+        ListWord::Nybbles => answers::lists::put_list_nybbles(out, at, list),
+    }
+}
+
 // Puts the answer to a word with one field.
 fn put_with_one(out: &mut [u8], at: usize, lines: bool, word: Word, x: &[u8]) -> usize
     requires { ⌜ length (now x) ≤ maxLine ⌝ }
-    ensures { λ r. ⌜ PutsUpTo maxAnswer (now (out .entry)) (now (out .exit)) at r (withOne lines word (now (x .entry))) ⌝ }
+    ensures { λ r. ⌜ PutsUpTo maxAnswer (now (out .entry)) (now (out .exit)) at r (answerFor lines word (now (x .entry) ∷ [])) ⌝ }
 {
-    match word {
-        Word::Show => lists::put_list_shown(out, at, lines, x),
-        Word::Nybbles => answers::lists::put_list_nybbles(out, at, x),
-        Word::Text => lists::put_text_answer(out, at, x),
+    let form = form_of(word);
+    match form {
+        Form::List(w) => put_of_list(out, at, lines, w, x),
+        Form::Hex => lists::put_hex_as_text(out, at, word, x),
         _ => put_expected(out, at, word),
     }
 }
 
-// Puts the answer to a word with a list and a number.
-fn put_with_number(out: &mut [u8], at: usize, word: Word, list: &[u8], x: &[u8]) -> usize
-    ensures { λ r. ⌜ PutsUpTo maxAnswer (now (out .entry)) (now (out .exit)) at r (withNumber word (now (list .entry)) (now (x .entry))) ⌝ }
+// Puts the answer to a word that takes a list and a number, by the list and what stands behind it.
+fn put_of_number(
+    out: &mut [u8],
+    at: usize,
+    word: Word,
+    w: NumberWord,
+    list: &[u8],
+    rest: &[u8],
+) -> usize
+    ensures { λ r. ⌜ PutsUpTo maxAnswer (now (out .entry)) (now (out .exit)) at r (oneField (expected word) (parts spaceByte (now (rest .entry))) (λ y. aNumber (expected word) (numberOf y) (λ n. askedUnder (now (list .entry)) (ofNumber w n)))) ⌝ }
 {
-    let read = read_decimal(x);
+    if part_end(rest, 0, b' ') < rest.len() {
+        return put_expected(out, at, word);
+    }
+    let read = read_decimal(rest);
     let Number::Given(n) = read else {
         return put_expected(out, at, word);
     };
-    match word {
-        Word::Dtai => put_asked(out, at, list, Asked::Dtai(n)),
-        Word::Utc => put_asked(out, at, list, Asked::Utc(TaiMicros(n))),
-        _ => put_expected(out, at, word),
+    match w {
+        NumberWord::Dtai => put_asked(out, at, list, Asked::Dtai(n)),
+        NumberWord::Utc => put_asked(out, at, list, Asked::Utc(TaiMicros(n))),
     }
 }
 
-// Puts the answer to a word with two fields: two lists, or a list and a number.
-fn put_with_two(out: &mut [u8], at: usize, lines: bool, word: Word, x: &[u8], y: &[u8]) -> usize
-    ensures { λ r. ⌜ PutsUpTo maxAnswer (now (out .entry)) (now (out .exit)) at r (withTwo lines word (now (x .entry)) (now (y .entry))) ⌝ }
+// Puts the answer to a word that takes a list, a day and a time, by the list, the day and what stands behind it.
+fn put_of_time(
+    out: &mut [u8],
+    at: usize,
+    word: Word,
+    w: TimeWord,
+    list: &[u8],
+    x: &[u8],
+    rest: &[u8],
+) -> usize
+    ensures { λ r. ⌜ PutsUpTo maxAnswer (now (out .entry)) (now (out .exit)) at r (oneField (expected word) (parts spaceByte (now (rest .entry))) (λ z. aNumber (expected word) (numberOf (now (x .entry))) (λ day. aNumber (expected word) (numberOf z) (λ t. askedUnder (now (list .entry)) (ofTime w day t))))) ⌝ }
 {
-    match word {
-        Word::Compare => pairs::put_comparison(out, at, lines, x, y),
-        Word::Longer => pairs::put_longer(out, at, x, y),
-        _ => put_with_number(out, at, word, x, y),
+    if part_end(rest, 0, b' ') < rest.len() {
+        return put_expected(out, at, word);
     }
-}
-
-// Puts the answer to a word with a list and two numbers.
-fn put_with_three(out: &mut [u8], at: usize, word: Word, list: &[u8], x: &[u8], y: &[u8]) -> usize
-    ensures { λ r. ⌜ PutsUpTo maxAnswer (now (out .entry)) (now (out .exit)) at r (withThree word (now (list .entry)) (now (x .entry)) (now (y .entry))) ⌝ }
-{
     let first = read_decimal(x);
     let Number::Given(day) = first else {
         return put_expected(out, at, word);
     };
-    let second = read_decimal(y);
+    let second = read_decimal(rest);
     let Number::Given(n) = second else {
         return put_expected(out, at, word);
     };
-    match word {
-        Word::Tai => put_asked(out, at, list, Asked::Tai(day, UtcMicros(n))),
-        Word::Uts => put_asked(out, at, list, Asked::Uts(day, UtcMicros(n))),
-        Word::Unsmooth => put_asked(out, at, list, Asked::Unsmooth(day, UtsNanos(n))),
-        _ => put_expected(out, at, word),
+    match w {
+        TimeWord::Tai => put_asked(out, at, list, Asked::Tai(day, UtcMicros(n))),
+        TimeWord::Uts => put_asked(out, at, list, Asked::Uts(day, UtcMicros(n))),
+        TimeWord::Unsmooth => put_asked(out, at, list, Asked::Unsmooth(day, UtsNanos(n))),
     }
 }
 
-// Puts the answer to a word with two fields and what follows them.
-fn put_after_two(out: &mut [u8], at: usize, word: Word, x: &[u8], y: &[u8], rest: &[u8]) -> usize
-    ensures { λ r. ⌜ ((lines : Bool) → PutsUpTo maxAnswer (now (out .entry)) (now (out .exit)) at r (answerFor lines word (now (x .entry) ∷ now (y .entry) ∷ parts spaceByte (now (rest .entry))))) ⌝ }
+// Puts the answer to a word that takes two lists, by the first and what stands behind it.
+fn put_of_pair(
+    out: &mut [u8],
+    at: usize,
+    lines: bool,
+    word: Word,
+    w: PairWord,
+    list: &[u8],
+    rest: &[u8],
+) -> usize
+    ensures { λ r. ⌜ PutsUpTo maxAnswer (now (out .entry)) (now (out .exit)) at r (oneField (expected word) (parts spaceByte (now (rest .entry))) (ofPair lines w (now (list .entry)))) ⌝ }
 {
-    let end = part_end(rest, 0, b' ');
-    if end < rest.len() {
+    if part_end(rest, 0, b' ') < rest.len() {
         return put_expected(out, at, word);
     }
-    put_with_three(out, at, word, x, y, rest)
+    match w {
+        PairWord::Compare => pairs::put_comparison(out, at, lines, list, rest),
+        PairWord::Longer => pairs::put_longer(out, at, list, rest),
+    }
 }
 
-// Puts the answer to a word with a field and what follows it.
-fn put_after_one(out: &mut [u8], at: usize, lines: bool, word: Word, x: &[u8], rest: &[u8]) -> usize
-    ensures { λ r. ⌜ PutsUpTo maxAnswer (now (out .entry)) (now (out .exit)) at r (answerFor lines word (now (x .entry) ∷ parts spaceByte (now (rest .entry)))) ⌝ }
+// Puts the answer to a word that takes a list, a day and a time, by the list and what stands behind it.
+fn put_after_list(
+    out: &mut [u8],
+    at: usize,
+    word: Word,
+    w: TimeWord,
+    list: &[u8],
+    rest: &[u8],
+) -> usize
+    ensures { λ r. ⌜ PutsUpTo maxAnswer (now (out .entry)) (now (out .exit)) at r (twoFields (expected word) (parts spaceByte (now (rest .entry))) (λ y z. aNumber (expected word) (numberOf y) (λ day. aNumber (expected word) (numberOf z) (λ t. askedUnder (now (list .entry)) (ofTime w day t))))) ⌝ }
 {
     let end = part_end(rest, 0, b' ');
     if end < rest.len() {
         let next = end + 1;
-        return put_after_two(out, at, word, x, &rest[..end], &rest[next..]);
+        return put_of_time(out, at, word, w, list, &rest[..end], &rest[next..]);
     }
-    put_with_two(out, at, lines, word, x, rest)
+    put_expected(out, at, word)
+}
+
+// Puts the answer to a word with a first field and what stands behind it.
+fn put_after_field(
+    out: &mut [u8],
+    at: usize,
+    lines: bool,
+    word: Word,
+    x: &[u8],
+    rest: &[u8],
+) -> usize
+    ensures { λ r. ⌜ PutsUpTo maxAnswer (now (out .entry)) (now (out .exit)) at r (answerFor lines word (now (x .entry) ∷ parts spaceByte (now (rest .entry)))) ⌝ }
+{
+    let form = form_of(word);
+    match form {
+        Form::ListAndNumber(w) => put_of_number(out, at, word, w, x, rest),
+        Form::ListAndTime(w) => put_after_list(out, at, word, w, x, rest),
+        Form::TwoLists(w) => put_of_pair(out, at, lines, word, w, x, rest),
+        _ => put_expected(out, at, word),
+    }
 }
 
 // Puts the answer to a word with what follows it.
@@ -126,7 +188,7 @@ fn put_after_word(out: &mut [u8], at: usize, lines: bool, word: Word, rest: &[u8
     let end = part_end(rest, 0, b' ');
     if end < rest.len() {
         let next = end + 1;
-        return put_after_one(out, at, lines, word, &rest[..end], &rest[next..]);
+        return put_after_field(out, at, lines, word, &rest[..end], &rest[next..]);
     }
     put_with_one(out, at, lines, word, rest)
 }

@@ -12,7 +12,8 @@ ghost use Rattle.text.specs.Write.{textOf};
 ghost use Rattle.nybbles.specs.Read.{readNybbles};
 ghost use Rattle.show.specs.Show.{shown};
 ghost use Rattle.answers.specs.Lists.{aboutList};
-ghost use Rattle.command.specs.Answer.{maxLine, maxAnswer, textAnswer};
+ghost use Rattle.command.specs.Answer.{maxLine, maxAnswer, ofHex};
+ghost use Rattle.line.specs.Words.{expected};
 use answers::lists::read_list;
 use format::hex::is_hex;
 use format::hex::put_unhex;
@@ -55,13 +56,13 @@ fn read_hex(field: &[u8], words: &mut [u32; 514], place: &mut u64) -> u8
     nybbles::read_nybbles(&bytes[..n], words, place)
 }
 
-// Puts the answer about a nybble list, in hex, as text.
-pub(crate) fn put_text_answer(out: &mut [u8], at: usize, field: &[u8]) -> usize
+// Puts the answer about a nybble list, in hex, as text; where a field is no hex, what was expected of the word.
+pub(crate) fn put_hex_as_text(out: &mut [u8], at: usize, word: Word, field: &[u8]) -> usize
     requires { ⌜ length (now field) ≤ maxLine ⌝ }
-    ensures { λ r. ⌜ PutsUpTo 1028 (now (out .entry)) (now (out .exit)) at r (textAnswer (now (field .entry))) ⌝ }
+    ensures { λ r. ⌜ PutsUpTo 1028 (now (out .entry)) (now (out .exit)) at r (ofHex (expected word) (now (field .entry))) ⌝ }
 {
     if !is_hex(field) {
-        return put_expected(out, at, Word::Text);
+        return put_expected(out, at, word);
     }
     let mut words = [0u32; 514];
     let mut place: u64 = 0;

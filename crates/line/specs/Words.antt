@@ -7,6 +7,12 @@ use Rattle.format.specs.Ascii.{ascii}
 use Rattle.format.specs.Parts.{same}
 use Rattle.line.specs.declared.words.Word.{Word}
 use Rattle.line.specs.declared.words.Word.the-variants.{Show, Nybbles, Text, Dtai, Tai, Utc, Uts, Unsmooth, Compare, Longer, Other}
+use Rattle.line.specs.declared.words.Form.{Form}
+use Rattle.line.specs.declared.words.Form.the-variants as form
+use Rattle.line.specs.declared.words.ListWord.the-variants as list
+use Rattle.line.specs.declared.words.NumberWord.the-variants as number
+use Rattle.line.specs.declared.words.TimeWord.the-variants as time
+use Rattle.line.specs.declared.words.PairWord.the-variants as pair
 
 -- the word that a field is
 unfoldable pub wordOf : List ℕ → Word
@@ -22,6 +28,20 @@ wordOf field =
     (cond (same field (ascii "compare")) Compare
     (cond (same field (ascii "longer")) Longer
     Other)))))))))
+
+-- the fields that a word takes, and which of the words that take them it is
+unfoldable pub formOf : Word → Form
+formOf Show = form.List list.Show
+formOf Nybbles = form.List list.Nybbles
+formOf Text = form.Hex
+formOf Dtai = form.ListAndNumber number.Dtai
+formOf Tai = form.ListAndTime time.Tai
+formOf Utc = form.ListAndNumber number.Utc
+formOf Uts = form.ListAndTime time.Uts
+formOf Unsmooth = form.ListAndTime time.Unsmooth
+formOf Compare = form.TwoLists pair.Compare
+formOf Longer = form.TwoLists pair.Longer
+formOf Other = form.None
 
 -- how a question goes
 unfoldable pub usage : Word → List ℕ

@@ -1,7 +1,9 @@
 // The words of a question line, and what is answered where a line is no question.
+ghost use mathlib.Core.Bool.{cond};
 ghost use mathlib.Core.Path.{_≡_};
 ghost use Rattle.format.specs.Output.{PutsUpTo};
-ghost use Rattle.line.specs.Words.{wordOf, usage, expected};
+ghost use Rattle.format.specs.Parts.{same};
+ghost use Rattle.line.specs.Words.{wordOf, formOf, usage, expected};
 use format::output::put_all;
 use format::parts::same;
 
@@ -19,41 +21,84 @@ pub enum Word {
     Other,
 }
 
+// The words that take a list alone,
+pub enum ListWord {
+    Show,
+    Nybbles,
+}
+
+// a list and a number,
+pub enum NumberWord {
+    Dtai,
+    Utc,
+}
+
+// a list, a day and a time of it,
+pub enum TimeWord {
+    Tai,
+    Uts,
+    Unsmooth,
+}
+
+// and two lists.
+pub enum PairWord {
+    Compare,
+    Longer,
+}
+
+// The fields that a word takes, and which of the words that take them it is.
+pub enum Form {
+    List(ListWord),
+    Hex,
+    ListAndNumber(NumberWord),
+    ListAndTime(TimeWord),
+    TwoLists(PairWord),
+    None,
+}
+
+// The word where a field is its name, and else another one.
+fn named(field: &[u8], name: &[u8], word: Word, otherwise: Word) -> Word
+    ensures { λ r. ⌜ r ≡ cond (same (now (field .entry)) (now (name .entry))) word otherwise ⌝ }
+{
+    if same(field, name) {
+        return word;
+    }
+    otherwise
+}
+
 // The word that a field is.
 pub fn word_of(field: &[u8]) -> Word
     ensures { λ r. ⌜ r ≡ wordOf (now (field .entry)) ⌝ }
 {
-    if same(field, b"show") {
-        return Word::Show;
+    let longer = named(field, b"longer", Word::Longer, Word::Other);
+    let compare = named(field, b"compare", Word::Compare, longer);
+    let unsmooth = named(field, b"unsmooth", Word::Unsmooth, compare);
+    let uts = named(field, b"uts", Word::Uts, unsmooth);
+    let utc = named(field, b"utc", Word::Utc, uts);
+    let tai = named(field, b"tai", Word::Tai, utc);
+    let dtai = named(field, b"dtai", Word::Dtai, tai);
+    let text = named(field, b"text", Word::Text, dtai);
+    let nybbles = named(field, b"nybbles", Word::Nybbles, text);
+    named(field, b"show", Word::Show, nybbles)
+}
+
+// The form of a word.
+pub fn form_of(word: Word) -> Form
+    ensures { λ r. ⌜ r ≡ formOf word ⌝ }
+{
+    match word {
+        Word::Show => Form::List(ListWord::Show),
+        Word::Nybbles => Form::List(ListWord::Nybbles),
+        Word::Text => Form::Hex,
+        Word::Dtai => Form::ListAndNumber(NumberWord::Dtai),
+        Word::Tai => Form::ListAndTime(TimeWord::Tai),
+        Word::Utc => Form::ListAndNumber(NumberWord::Utc),
+        Word::Uts => Form::ListAndTime(TimeWord::Uts),
+        Word::Unsmooth => Form::ListAndTime(TimeWord::Unsmooth),
+        Word::Compare => Form::TwoLists(PairWord::Compare),
+        Word::Longer => Form::TwoLists(PairWord::Longer),
+        Word::Other => Form::None,
     }
-    if same(field, b"nybbles") {
-        return Word::Nybbles;
-    }
-    if same(field, b"text") {
-        return Word::Text;
-    }
-    if same(field, b"dtai") {
-        return Word::Dtai;
-    }
-    if same(field, b"tai") {
-        return Word::Tai;
-    }
-    if same(field, b"utc") {
-        return Word::Utc;
-    }
-    if same(field, b"uts") {
-        return Word::Uts;
-    }
-    if same(field, b"unsmooth") {
-        return Word::Unsmooth;
-    }
-    if same(field, b"compare") {
-        return Word::Compare;
-    }
-    if same(field, b"longer") {
-        return Word::Longer;
-    }
-    Word::Other
 }
 
 // Puts how a question goes.

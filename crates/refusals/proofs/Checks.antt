@@ -37,4 +37,3 @@ same-check {A} {a} false n e f = stop a n e
 pub through : {A : Type 0} (b : Bool) (n most : ℕ) (a : Answer A) → n ≤ most → number a ≤ most → number (require b n a) ≤ most
 through true n most a h g = g
 through false n most a h g = h
-

@@ -15,7 +15,7 @@
 //! # Ok::<(), leap::ReadError>(())
 //! ```
 //!
-//! What has no answer is refused, with one of the fourteen numbers of [`Refusal`]:
+//! What has no answer is refused, with one of the numbers of [`Refusal`]:
 //!
 //! ```
 //! use leap::{Mjd, ReadError, Refusal, Schedule};

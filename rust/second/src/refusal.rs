@@ -1,4 +1,4 @@
-//! The refusal numbers: the eleven of 01, and those that requests of 02 add. An
+//! The refusal numbers: those of 01, and those that requests of 02 add. An
 //! accepted answer carries 0.
 
 pub const ACCEPTED: u8 = 0;

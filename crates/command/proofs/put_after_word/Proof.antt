@@ -8,19 +8,19 @@ use Rattle.format.proofs.Fields.{only, first-and-rest}
 use Rattle.command.proofs.put_after_word.Statement.{statement}
 use Rattle.command.proofs.put_after_word.Tie as tie
 
-slice-aggregate-put-after-one : tie.Need-slice-aggregate-put-after-one
-slice-aggregate-put-after-one c =
+slice-aggregate-put-after-field : tie.Need-slice-aggregate-put-after-field
+slice-aggregate-put-after-field c =
     let args = c .before .before .before .before .before .before .args in
     let if1 = c .before .before .if1 in
     sym (length-take-le _ (args .rest .now) (omega (arith, if1 .taken)))
 
 returns : tie.Need-returns
 returns c =
-    let put-after-one = c .before .before .put-after-one in
+    let put-after-field = c .before .before .put-after-field in
     let args = c .before .before .before .before .before .before .before .before .before .before .args in
     let part-end = c .before .before .before .before .before .before .before .part-end in
     let if1 = c .before .before .before .before .before .before .if1 in
-    few (put-after-one .ensures) (rw (first-and-rest 32 (args .rest .now) _ (part-end .ensures) (if1 .taken))) (omega arith)
+    few (put-after-field .ensures) (rw (first-and-rest 32 (args .rest .now) _ (part-end .ensures) (if1 .taken))) (omega arith)
 
 returns-2 : tie.Need-returns-2
 returns-2 c =
@@ -36,7 +36,7 @@ put-after-word-spec =
     (tie.spec
     (λ c κs. search needs)
     (λ c. search needs)
-    slice-aggregate-put-after-one
+    slice-aggregate-put-after-field
     (λ c. search needs)
     (λ c. search needs)
     (λ c. search needs)

@@ -5,7 +5,7 @@ use mathlib.Core.Path.{sym, _∙_}
 use lib.Seq.{length-take-le}
 use Rattle.format.proofs.Putting.{few, text-put}
 use Rattle.format.proofs.Fields.{only, first-and-rest}
-use Rattle.command.proofs.Fields.{long-line, in-parts}
+use Rattle.command.proofs.Fields.{no-fields, long-line, in-parts}
 use Rattle.command.proofs.put_answer.Statement.{statement}
 use Rattle.command.proofs.put_answer.Tie as tie
 
@@ -40,7 +40,7 @@ returns-3 c =
     let part-end = c .before .before .before .before .before .before .part-end in
     let if2 = c .before .before .before .before .before .if2 in
     let word-of2 = c .before .before .before .word-of2 in
-    few (put-expected .ensures) (in-parts (args .lines) (args .line .now) (if1 .left) ∙ rw (only 32 (args .line .now) _ (part-end .ensures) (if2 .left), word-of2 .ensures)) (omega arith)
+    few (put-expected .ensures) (in-parts (args .lines) (args .line .now) (if1 .left) ∙ rw (only 32 (args .line .now) _ (part-end .ensures) (if2 .left), word-of2 .ensures) (no-fields (args .lines) _)) (omega arith)
 
 pub put-answer-spec : {M : Type 1} → statement M
 put-answer-spec =
