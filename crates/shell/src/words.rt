@@ -1,0 +1,23 @@
+// The words of the program's own, beside those of questions.
+use format::parts::same;
+
+pub enum Own {
+    Ask,
+    Replay,
+    Help,
+    Other,
+}
+
+// The word of the program's own that a word is.
+pub fn own_of(word: &[u8]) -> Own {
+    if same(word, b"ask") {
+        return Own::Ask;
+    }
+    if same(word, b"replay") {
+        return Own::Replay;
+    }
+    if same(word, b"help") {
+        return Own::Help;
+    }
+    Own::Other
+}
