@@ -12,7 +12,7 @@ use Rattle.line.specs.declared.words.Word.{Word}
 use Rattle.line.specs.declared.words.Word.the-variants.{Show, Nybbles, Text, Dtai, Tai, Utc, Uts, Unsmooth, Compare, Longer, Other}
 use Rattle.line.specs.Words.{expected}
 use Rattle.command.specs.Answer.{withOne, withTwo, withThree}
-use Rattle.command.specs.Private.{withNumber}
+use Rattle.command.specs.Private.{withNumber, withNumbers}
 
 abbrev other-one-tags : List ℕ
 other-one-tags = 3 ∷ 4 ∷ 5 ∷ 6 ∷ 7 ∷ 8 ∷ 9 ∷ 10 ∷ []
@@ -68,23 +68,38 @@ other-two lines x y Compare k = absurd (miss other-two-tags 8 tt k)
 other-two lines x y Longer k = absurd (miss other-two-tags 9 tt k)
 other-two lines x y Other k = refl
 
-abbrev other-three-tags : List ℕ
-other-three-tags = 0 ∷ 1 ∷ 2 ∷ 3 ∷ 5 ∷ 8 ∷ 9 ∷ 10 ∷ []
+abbrev other-numbers-tags : List ℕ
+other-numbers-tags = 0 ∷ 1 ∷ 2 ∷ 3 ∷ 5 ∷ 8 ∷ 9 ∷ 10 ∷ []
 
--- with three
-pub other-three : (list x y : List ℕ) (w : Word) → OneOf other-three-tags (tagOf word.the-type w) → withThree w list x y ≡ expected w
-unfolding withThree
-other-three list x y Show k = refl
-other-three list x y Nybbles k = refl
-other-three list x y Text k = refl
-other-three list x y Dtai k = refl
-other-three list x y Tai k = absurd (miss other-three-tags 4 tt k)
-other-three list x y Utc k = refl
-other-three list x y Uts k = absurd (miss other-three-tags 6 tt k)
-other-three list x y Unsmooth k = absurd (miss other-three-tags 7 tt k)
-other-three list x y Compare k = refl
-other-three list x y Longer k = refl
-other-three list x y Other k = refl
+-- with two numbers
+pub other-numbers : (list : List ℕ) (n m : ℕ) (w : Word) → OneOf other-numbers-tags (tagOf word.the-type w) → withNumbers w list n m ≡ expected w
+unfolding withNumbers
+other-numbers list n m Show k = refl
+other-numbers list n m Nybbles k = refl
+other-numbers list n m Text k = refl
+other-numbers list n m Dtai k = refl
+other-numbers list n m Tai k = absurd (miss other-numbers-tags 4 tt k)
+other-numbers list n m Utc k = refl
+other-numbers list n m Uts k = absurd (miss other-numbers-tags 6 tt k)
+other-numbers list n m Unsmooth k = absurd (miss other-numbers-tags 7 tt k)
+other-numbers list n m Compare k = refl
+other-numbers list n m Longer k = refl
+other-numbers list n m Other k = refl
+
+-- two fields that are numbers
+pub both-numbers : (w : Word) (list x y : List ℕ) (n m : ℕ) → numberOf x ≡ Given n → numberOf y ≡ Given m → withThree w list x y ≡ withNumbers w list n m
+unfolding withThree withNumbers
+both-numbers Show list x y n m e f = refl
+both-numbers Nybbles list x y n m e f = refl
+both-numbers Text list x y n m e f = refl
+both-numbers Dtai list x y n m e f = refl
+both-numbers Tai list x y n m e f = rw (e, f)
+both-numbers Utc list x y n m e f = refl
+both-numbers Uts list x y n m e f = rw (e, f)
+both-numbers Unsmooth list x y n m e f = rw (e, f)
+both-numbers Compare list x y n m e f = refl
+both-numbers Longer list x y n m e f = refl
+both-numbers Other list x y n m e f = refl
 
 -- a field that is to be a number and is none
 pub no-number : (w : Word) (list x : List ℕ) → numberOf x ≡ Missing → withNumber w list x ≡ expected w

@@ -5,7 +5,7 @@ ghost use Rattle.format.specs.Output.{PutsUpTo};
 ghost use Rattle.format.specs.Parts.{parts};
 ghost use Rattle.format.specs.Lines.{spaceByte};
 ghost use Rattle.command.specs.Answer.{maxLine, maxAnswer, withOne, withTwo, withThree, answerFor, answerTo, Answered};
-ghost use Rattle.command.specs.Private.{withNumber};
+ghost use Rattle.command.specs.Private.{withNumber, withNumbers};
 ghost use Rattle.stream.specs.Lines.{linesOf};
 ghost use Rattle.stream.specs.Stream.{answered, LinesAnswered};
 ghost use Rattle.command.specs.Lines.{asking};
@@ -75,6 +75,18 @@ fn put_with_two(out: &mut [u8], at: usize, lines: bool, word: Word, x: &[u8], y:
     }
 }
 
+// Puts the answer to a word with a list and two numbers that are read.
+fn put_with_numbers(out: &mut [u8], at: usize, word: Word, list: &[u8], day: u64, n: u64) -> usize
+    ensures { λ r. ⌜ PutsUpTo maxAnswer (now (out .entry)) (now (out .exit)) at r (withNumbers word (now (list .entry)) day n) ⌝ }
+{
+    match word {
+        Word::Tai => put_asked(out, at, list, Asked::Tai(day, UtcMicros(n))),
+        Word::Uts => put_asked(out, at, list, Asked::Uts(day, UtcMicros(n))),
+        Word::Unsmooth => put_asked(out, at, list, Asked::Unsmooth(day, UtsNanos(n))),
+        _ => put_expected(out, at, word),
+    }
+}
+
 // Puts the answer to a word with a list and two numbers.
 fn put_with_three(out: &mut [u8], at: usize, word: Word, list: &[u8], x: &[u8], y: &[u8]) -> usize
     ensures { λ r. ⌜ PutsUpTo maxAnswer (now (out .entry)) (now (out .exit)) at r (withThree word (now (list .entry)) (now (x .entry)) (now (y .entry))) ⌝ }
@@ -87,12 +99,7 @@ fn put_with_three(out: &mut [u8], at: usize, word: Word, list: &[u8], x: &[u8], 
     let Number::Given(n) = second else {
         return put_expected(out, at, word);
     };
-    match word {
-        Word::Tai => put_asked(out, at, list, Asked::Tai(day, UtcMicros(n))),
-        Word::Uts => put_asked(out, at, list, Asked::Uts(day, UtcMicros(n))),
-        Word::Unsmooth => put_asked(out, at, list, Asked::Unsmooth(day, UtsNanos(n))),
-        _ => put_expected(out, at, word),
-    }
+    put_with_numbers(out, at, word, list, day, n)
 }
 
 // Puts the answer to a word with two fields and what follows them.
