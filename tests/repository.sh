@@ -17,13 +17,16 @@ ok "the refusals are everywhere as their table has them"
 rt fmt --check >/dev/null || fail "rt fmt --check names files that are not in the layout"
 ok "every file is in the layout of rt fmt"
 
-# every public function of a library has an `ensures` and no `requires`
+# every public function of a library has an `ensures` and no `requires`. Of the functions in these files, which write to standard output, no contract
+# could say what they do: they have none, and no `requires`
+effects="crates/shell/src/help.rt crates/shell/src/output.rt"
 for crate in $crates; do
     [ -f "crates/$crate/src/lib.rt" ] || continue
     for file in crates/"$crate"/src/*.rt; do
-        bad=$(awk '
+        case " $effects " in *" $file "*) said=1 ;; *) said=0 ;; esac
+        bad=$(awk -v said="$said" '
             /^[ \t]*\/\// { next }
-            /^[ \t]*pub (extern "C" )?fn / { name = $0; ensures = 0; open = 1 }
+            /^[ \t]*pub (extern "C" )?fn / { name = $0; ensures = said; open = 1 }
             open && /requires/ { print "a public function with a requires: " name; open = 0 }
             open && /ensures/ { ensures = 1 }
             open && /^[ \t]*\{[ \t]*$/ { if (!ensures) print "a public function without an ensures: " name; open = 0 }
@@ -32,7 +35,7 @@ for crate in $crates; do
         [ -z "$bad" ] || fail "$file: $bad"
     done
 done
-ok "every public function of a library has an ensures and no requires"
+ok "every public function of a library has an ensures, but for those that write to standard output, and no requires"
 
 # no contract says how a month is found. By the text of the code: from an estimate, with no table, no loop and no function that calls itself
 code=$(sed 's|//.*||' crates/calendar/src/lib.rt)

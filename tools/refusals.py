@@ -149,7 +149,7 @@ def drawn(refusals):
     yield between(rust, "pub enum Refusal {", "}", variants(refusals))
     yield between(rust, "    /// All of them, by number.", "", all_variants(refusals))
     yield between(rust, "        f.write_str(match self {", "        })", displayed(refusals))
-    yield between("crates/leapsec/src/help.rt", "The numbers:\\n\\", "    );", helped(refusals))
+    yield between("crates/shell/src/help.rt", "The numbers:\\n\\", "    );", helped(refusals))
     yield between("README.md", "<!-- the refusals, drawn by tools/refusals.py -->", "<!-- end -->", listed(refusals))
 
 

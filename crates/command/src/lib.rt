@@ -90,6 +90,17 @@ fn put_of_number(
     }
 }
 
+// Puts the answer to a word that takes a list, a day and a time.
+fn put_at_time(out: &mut [u8], at: usize, w: TimeWord, list: &[u8], day: u64, n: u64) -> usize
+    ensures { λ r. ⌜ PutsUpTo maxAnswer (now (out .entry)) (now (out .exit)) at r (askedUnder (now (list .entry)) (ofTime w day n)) ⌝ }
+{
+    match w {
+        TimeWord::Tai => put_asked(out, at, list, Asked::Tai(day, UtcMicros(n))),
+        TimeWord::Uts => put_asked(out, at, list, Asked::Uts(day, UtcMicros(n))),
+        TimeWord::Unsmooth => put_asked(out, at, list, Asked::Unsmooth(day, UtsNanos(n))),
+    }
+}
+
 // Puts the answer to a word that takes a list, a day and a time, by the list, the day and what stands behind it.
 fn put_of_time(
     out: &mut [u8],
@@ -113,11 +124,7 @@ fn put_of_time(
     let Number::Given(n) = second else {
         return put_expected(out, at, word);
     };
-    match w {
-        TimeWord::Tai => put_asked(out, at, list, Asked::Tai(day, UtcMicros(n))),
-        TimeWord::Uts => put_asked(out, at, list, Asked::Uts(day, UtcMicros(n))),
-        TimeWord::Unsmooth => put_asked(out, at, list, Asked::Unsmooth(day, UtsNanos(n))),
-    }
+    put_at_time(out, at, w, list, day, n)
 }
 
 // Puts the answer to a word that takes two lists, by the first and what stands behind it.

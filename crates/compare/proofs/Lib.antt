@@ -11,6 +11,7 @@ pub mod Held
 pub mod Meaning
 pub mod Shown
 pub mod Parting
+mod Early
 pub mod Worked
 pub mod Handed
 pub mod Room

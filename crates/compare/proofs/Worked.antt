@@ -1,7 +1,7 @@
 -- 7/14 worked by hand, as one table under one claim: what comparing two texts answers and writes, and which of them is the longer.
 -- Assumes nothing.
-use mathlib.Core.Path.{_≡_, refl}
-use mathlib.Core.Bool.{Bool, true, false}
+use mathlib.Core.Path.{_≡_, refl, _∙_}
+use mathlib.Core.Bool.{Bool, true, false, _&&_}
 use mathlib.Core.List.{List, [], _∷_}
 use Prim.Native.Nat.{ℕ}
 use Prim.Native.String.{String}
@@ -10,13 +10,14 @@ use Rattle.format.specs.Decimal.{decimal, digitsIn}
 use Rattle.format.specs.Lines.{between}
 use Rattle.calendar.specs.Calendar.{isLeapYear, monthLengths, daysInMonth, monthStart}
 use Rattle.schedule.specs.Schedule.{isExpired}
-use Rattle.schedule.specs.Answers.{byReading, fitting, fitted}
+use Rattle.schedule.specs.Answers.{byReading, unwritten, fitting, fitted}
 use Rattle.schedule.specs.Extends.{below, sameLeaps}
 use Rattle.text.specs.Read.{readFrom, readText}
 use Rattle.compare.specs.declared.longer.Chosen.{Chosen}
 use Rattle.compare.specs.declared.longer.Chosen.the-variants.{First, Second, Refused}
-use Rattle.compare.specs.Longer.{chosenOf, chosen}
-use Rattle.compare.specs.Compare.{hasLeap, leapMark, lineAt, monthLines, expiryLines, linesOf, relationBy, inLines, joined, compared, comparing, comparedInto, comparisonOf}
+use Rattle.compare.specs.Longer.{chosenOf, aboutBoth, chosen}
+use Rattle.compare.specs.Compare.{hasLeap, leapMark, lineAt, monthLines, expiryLines, relationBy, inLines, joined, compared, comparing, comparedInto, comparisonOf}
+use Rattle.compare.proofs.Early.{allBelow, earlyLines, isEarly, about-early}
 
 -- a row: two texts and what an output that held other bytes then holds; two texts, a room, and the number and the count that are answered; two
 -- texts and what the program answers, in lines or in one; two texts and the longer
@@ -74,7 +75,35 @@ table =
     ∷ longer "5?" "1000?" (Refused 3)
     ∷ []
 
+-- the same of a row by the first 20 months, which computes sooner
+abbrev Computed : Row → Type 0
+Computed (writes x y before after) =
+    (isEarly (ascii x) && isEarly (ascii y) ≡ true) × (aboutBoth (ascii x) (ascii y) (λ n. ascii before) (λ a b. fitted (inLines (earlyLines a b)) (ascii before)) ≡ ascii after)
+Computed (answers x y room n count) =
+    (isEarly (ascii x) && isEarly (ascii y) ≡ true) × (aboutBoth (ascii x) (ascii y) unwritten (λ a b. fitting (inLines (earlyLines a b)) room) ≡ record { number = n; count = count })
+Computed (prints lines x y text) =
+    (isEarly (ascii x) && isEarly (ascii y) ≡ true) × (aboutBoth (ascii x) (ascii y) decimal (λ a b. joined (between lines) (earlyLines a b)) ≡ ascii text)
+Computed (longer x y c) = Says (longer x y c)
+
+abbrev ComputedAll : List Row → Type 0
+ComputedAll [] = Unit {0}
+ComputedAll (r ∷ rs) = Computed r × ComputedAll rs
+
+says : (r : Row) → Computed r → Says r
+unfolding compared
+says (writes x y before after) c = about-early (ascii x) (ascii y) (λ n. ascii before) (λ ls. fitted (inLines ls) (ascii before)) (c .0) ∙ c .1
+says (answers x y room n count) c = about-early (ascii x) (ascii y) unwritten (λ ls. fitting (inLines ls) room) (c .0) ∙ c .1
+says (prints lines x y text) c = about-early (ascii x) (ascii y) decimal (joined (between lines)) (c .0) ∙ c .1
+says (longer x y z) c = c
+
+say-all : (rs : List Row) → ComputedAll rs → SayAll rs
+say-all [] c = tt
+say-all (r ∷ rs) c = (says r (c .0), say-all rs (c .1))
+
+computed : ComputedAll table
+unfolding monthStart daysInMonth monthLengths isLeapYear readText readFrom byReading fitting fitted inLines joined allBelow earlyLines monthLines lineAt hasLeap leapMark isExpired expiryLines relationBy between decimal digitsIn below sameLeaps chosenOf
+computed = ((refl, refl), ((refl, refl), ((refl, refl), ((refl, refl), ((refl, refl), ((refl, refl), ((refl, refl), ((refl, refl), ((refl, refl), ((refl, refl), ((refl, refl), ((refl, refl), ((refl, refl), ((refl, refl), ((refl, refl), ((refl, refl), ((refl, refl), ((refl, refl), ((refl, refl), (refl, (refl, (refl, (refl, (refl, (refl, tt)))))))))))))))))))))))))
+
 -- every row of the table holds of the definitions
 pub worked : SayAll table
-unfolding monthStart daysInMonth monthLengths isLeapYear readText readFrom byReading fitting fitted compared inLines joined linesOf monthLines lineAt hasLeap leapMark isExpired expiryLines relationBy between decimal digitsIn below sameLeaps chosenOf
-worked = (refl, (refl, (refl, (refl, (refl, (refl, (refl, (refl, (refl, (refl, (refl, (refl, (refl, (refl, (refl, (refl, (refl, (refl, (refl, (refl, (refl, (refl, (refl, (refl, (refl, tt)))))))))))))))))))))))))
+worked = say-all table computed

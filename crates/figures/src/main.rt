@@ -17,13 +17,18 @@ fn number(n: u64) {
     io::print_decimal(1, n);
 }
 
+// The last number of a line.
+fn last(n: u64) {
+    number(n);
+    put(b"\n");
+}
+
 // What a reader answers: number, place, how many leaps, expiry.
 fn reading(n: u8, place: u64, words: &[u32; 514]) {
     number(n as u64);
     number(place);
     number(schedule::count_of(words) as u64);
-    number(schedule::expiry_of(words) as u64);
-    put(b"\n");
+    last(schedule::expiry_of(words) as u64);
 }
 
 fn text(name: &[u8], list: &[u8]) {
@@ -50,18 +55,30 @@ fn list_of(list: &[u8]) -> [u32; 514] {
     words
 }
 
-// The month of the last leap.
+// The month of the last leap of a list that has one.
 fn last_leap(name: &[u8], words: &[u32; 514]) {
     put(name);
     let n = schedule::count_of(words);
     if 0 < n {
-        number(schedule::month_at(words, n - 1) as u64);
+        last(schedule::month_at(words, n - 1) as u64);
     }
-    put(b"\n");
 }
 
-fn wide(x: u8) -> u64 {
-    x as u64
+fn hex(x: u8, is_written: bool) {
+    if is_written {
+        io::print_hex(1, x as u64, 2);
+    }
+}
+
+// The first n of some bytes in hex.
+fn hexes(bytes: &[u8; 64], n: usize) {
+    put(b" ");
+    let mut i: usize = 0;
+    while i < 64 {
+        hex(bytes[i], i < n);
+        i += 1;
+    }
+    put(b"\n");
 }
 
 // The nybbles of a list in hex: the writer's number, then the bytes.
@@ -70,22 +87,13 @@ fn written(name: &[u8], words: &[u32; 514]) {
     let mut out = [0u8; 64];
     let w = nybbles::write_nybbles(words, &mut out);
     number(w.number as u64);
-    put(b" ");
-    let n = w.count;
-    let mut i: usize = 0;
-    while i < 64 {
-        if i < n {
-            io::print_hex(1, wide(out[i]), 2);
-        }
-        i += 1;
-    }
-    put(b"\n");
+    hexes(&out, w.count);
 }
 
-fn month(name: &[u8], m: u32) {
-    put(name);
-    number(calendar::month_start(m));
-    put(b"\n");
+fn month(m: u32) {
+    put(b"month");
+    number(m as u64);
+    last(calendar::month_start(m));
 }
 
 fn dtai(name: &[u8], words: &[u32; 514], day: u64) {
@@ -94,12 +102,11 @@ fn dtai(name: &[u8], words: &[u32; 514], day: u64) {
         DtaiAnswer::Given(d) => {
             if 0 <= d {
                 number(0);
-                number(d as u64);
+                last(d as u64);
             }
         }
-        DtaiAnswer::Refused(n) => number(n as u64),
+        DtaiAnswer::Refused(n) => last(n as u64),
     }
-    put(b"\n");
 }
 
 fn tai(name: &[u8], words: &[u32; 514], day: u64, micros: u64) {
@@ -107,11 +114,10 @@ fn tai(name: &[u8], words: &[u32; 514], day: u64, micros: u64) {
     match questions::utc_to_tai(words, day, UtcMicros(micros)) {
         TaiAnswer::Given(x) => {
             number(0);
-            number(x.0);
+            last(x.0);
         }
-        TaiAnswer::Refused(n) => number(n as u64),
+        TaiAnswer::Refused(n) => last(n as u64),
     }
-    put(b"\n");
 }
 
 fn utc(name: &[u8], words: &[u32; 514], x: u64) {
@@ -120,11 +126,18 @@ fn utc(name: &[u8], words: &[u32; 514], x: u64) {
         UtcAnswer::Given(day, t) => {
             number(0);
             number(day);
-            number(t.0);
+            last(t.0);
         }
-        UtcAnswer::Refused(n) => number(n as u64),
+        UtcAnswer::Refused(n) => last(n as u64),
     }
-    put(b"\n");
+}
+
+// What smoothed time goes back to.
+fn back(words: &[u32; 514], day: u64, nanos: UtsNanos) {
+    match questions::uts_to_utc(words, day, nanos) {
+        MicrosAnswer::Given(t) => last(t.0),
+        MicrosAnswer::Refused(n) => last(n as u64),
+    }
 }
 
 // Smoothed time, and what it goes back to.
@@ -134,44 +147,55 @@ fn uts(name: &[u8], words: &[u32; 514], day: u64, micros: u64) {
         UtsAnswer::Given(u) => {
             number(0);
             number(u.0);
-            match questions::uts_to_utc(words, day, UtsNanos(u.0)) {
-                MicrosAnswer::Given(t) => number(t.0),
-                MicrosAnswer::Refused(n) => number(n as u64),
-            }
+            back(words, day, u);
         }
-        UtsAnswer::Refused(n) => number(n as u64),
+        UtsAnswer::Refused(n) => last(n as u64),
     }
-    put(b"\n");
 }
 
-// P1 to P9: readings.
-fn readings() {
+// Smoothed time at each of these microseconds of a day.
+fn uts_each(name: &[u8], words: &[u32; 514], day: u64, micros: &[u64]) {
+    let mut i: usize = 0;
+    while i < micros.len() {
+        uts(name, words, day, micros[i]);
+        i += 1;
+    }
+}
+
+// P1 to P6: texts.
+fn texts() {
     text(b"P1", b"5?");
     text(b"P2", b"");
     text(b"P3", b"06+5?");
     text(b"P4", b"1000?");
     text(b"P5", b"999?");
     text(b"P6", b"5?\n");
+}
+
+// P7 to P9: nybbles.
+fn codes() {
     nybbles(b"P7", b"\xF4");
     nybbles(b"P8", b"\x0F");
     nybbles(b"P9", b"\x9D");
 }
 
 // P10 to P12: smoothed time on the day of the leap.
-fn smoothed(plus: &[u32; 514], minus: &[u32; 514]) {
-    uts(b"P10", plus, 41498, 86_400_000_000);
-    uts(b"P11", plus, 41498, 85_401_000_000);
-    uts(b"P11", plus, 41498, 85_402_000_000);
-    uts(b"P12", minus, 41498, 86_398_000_000);
-    uts(b"P12", minus, 41498, 86_399_000_000);
+fn smoothed() {
+    let plus = list_of(b"6+5?");
+    uts(b"P10", &plus, 41498, 86_400_000_000);
+    uts_each(b"P11", &plus, 41498, &[85_401_000_000, 85_402_000_000]);
+    let minus = list_of(b"6-5?");
+    uts_each(b"P12", &minus, 41498, &[86_398_000_000, 86_399_000_000]);
 }
 
 // Month starts: the first and the last of the table, and those of list B's last leap and expiry.
 fn months() {
-    month(b"month 0", 0);
-    month(b"month 2400", 2400);
-    month(b"month 540", 540);
-    month(b"month 599", 599);
+    let months: [u32; 4] = [0, 2400, 540, 599];
+    let mut i: usize = 0;
+    while i < 4 {
+        month(months[i]);
+        i += 1;
+    }
 }
 
 fn list_a() {
@@ -204,37 +228,52 @@ fn list_b() {
 }
 
 // The first table of document 002, at a day that ends with an inserted second, and the start of the next day.
-fn inserted(words: &[u32; 514]) {
-    uts(b"inserted", words, 41498, 85_400_000_000);
-    uts(b"inserted", words, 41498, 85_401_000_000);
-    uts(b"inserted", words, 41498, 85_402_000_000);
-    uts(b"inserted", words, 41498, 85_403_000_000);
-    uts(b"inserted", words, 41498, 85_404_000_000);
-    uts(b"inserted", words, 41498, 86_399_000_000);
-    uts(b"inserted", words, 41498, 86_400_000_000);
-    uts(b"inserted", words, 41499, 0);
-    uts(b"inserted", words, 41499, 1_000_000);
+fn inserted() {
+    let words = list_of(b"6+5?");
+    uts_each(
+        b"inserted",
+        &words,
+        41498,
+        &[
+            85_400_000_000,
+            85_401_000_000,
+            85_402_000_000,
+            85_403_000_000,
+            85_404_000_000,
+            86_399_000_000,
+            86_400_000_000,
+        ],
+    );
+    uts_each(b"inserted", &words, 41499, &[0, 1_000_000]);
 }
 
 // The second, at a day that ends with a deleted second.
-fn deleted(words: &[u32; 514]) {
-    uts(b"deleted", words, 41498, 85_398_000_000);
-    uts(b"deleted", words, 41498, 85_399_000_000);
-    uts(b"deleted", words, 41498, 85_400_000_000);
-    uts(b"deleted", words, 41498, 85_401_000_000);
-    uts(b"deleted", words, 41498, 85_402_000_000);
-    uts(b"deleted", words, 41498, 85_403_000_000);
-    uts(b"deleted", words, 41498, 86_398_000_000);
-    uts(b"deleted", words, 41499, 0);
-    uts(b"deleted", words, 41499, 1_000_000);
+fn deleted() {
+    let words = list_of(b"6-5?");
+    uts_each(
+        b"deleted",
+        &words,
+        41498,
+        &[
+            85_398_000_000,
+            85_399_000_000,
+            85_400_000_000,
+            85_401_000_000,
+            85_402_000_000,
+            85_403_000_000,
+            86_398_000_000,
+        ],
+    );
+    uts_each(b"deleted", &words, 41499, &[0, 1_000_000]);
 }
 
 // TAI at the first instant of 1972, and the one instant of it; DTAI in the inserted second is the old one.
-fn atomic(words: &[u32; 514]) {
-    tai(b"1972 TAI", words, 41317, 0);
-    utc(b"1972 UTC", words, 10_000_000);
-    tai(b"leap TAI", words, 41498, 86_400_000_000);
-    tai(b"next TAI", words, 41499, 0);
+fn atomic() {
+    let words = list_of(b"6+5?");
+    tai(b"1972 TAI", &words, 41317, 0);
+    utc(b"1972 UTC", &words, 10_000_000);
+    tai(b"leap TAI", &words, 41498, 86_400_000_000);
+    tai(b"next TAI", &words, 41499, 0);
 }
 
 // A list without leaps that expires on a day.
@@ -244,26 +283,32 @@ fn expiring(expiry: u32) -> [u32; 514] {
     words
 }
 
-fn until(name: &[u8], expiry: u32) {
+fn until(expiry: u32) {
+    put(b"until");
+    number(expiry as u64);
     let words = expiring(expiry);
-    written(name, &words);
+    written(b"", &words);
 }
 
 // 10/14: which expiry days of a list without leaps are well formed and can be written.
 fn expiries() {
-    until(b"until 41317", 41_317);
-    until(b"until 41318", 41_318);
-    until(b"until 41347", 41_347);
-    until(b"until 41348", 41_348);
-    until(b"until 71752", 71_752);
-    until(b"until 71753", 71_753);
+    let days: [u32; 6] = [41_317, 41_318, 41_347, 41_348, 71_752, 71_753];
+    let mut i: usize = 0;
+    while i < 6 {
+        until(days[i]);
+        i += 1;
+    }
 }
 
 // 10/14: the last day before an expiry within a month, 41360, is known to its end.
 fn last_day() {
     let words = expiring(41_360);
-    uts(b"within UTS", &words, 41_359, 86_399_999_999);
-    uts(b"within UTS", &words, 41_359, 86_400_000_000);
+    uts_each(
+        b"within UTS",
+        &words,
+        41_359,
+        &[86_399_999_999, 86_400_000_000],
+    );
     uts(b"within UTS", &words, 41_360, 0);
     tai(b"within TAI", &words, 41_359, 86_399_999_999);
     tai(b"within TAI", &words, 41_359, 86_400_000_000);
@@ -271,21 +316,25 @@ fn last_day() {
     utc(b"within UTC", &words, 3_715_210_000_000);
 }
 
+// List N, and the longest gap.
+fn others() {
+    text(b"N", b"6-5?");
+    let whole = list_of(b"999?");
+    written(b"999", &whole);
+}
+
 fn main() {
-    readings();
-    let plus = list_of(b"6+5?");
-    let minus = list_of(b"6-5?");
-    smoothed(&plus, &minus);
+    texts();
+    codes();
+    smoothed();
     months();
     list_a();
     list_b();
     bytecodes();
-    text(b"N", b"6-5?");
-    let whole = list_of(b"999?");
-    written(b"999", &whole);
-    inserted(&plus);
-    deleted(&minus);
-    atomic(&plus);
+    others();
+    inserted();
+    deleted();
+    atomic();
     expiries();
     last_day();
 }

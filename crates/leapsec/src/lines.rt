@@ -3,20 +3,14 @@
 ghost use Prim.Native.Nat.{_+_, _≤_};
 ghost use lib.ListN.{length};
 use crate::output::print_answer;
-use crate::output::within;
-use crate::output::write;
 use libc::STDIN_FILENO;
+use shell::output::within;
+use shell::output::write;
 use stream::Step;
 
 // A line that is longer than 8,192 bytes is no question, whatever it has behind them, and one that is longer than 4,096 is no line of a trace. So
 // of a line that is not complete no more than 8,193 bytes are held; for a trace 4,097 would do.
 const MOST_HELD: usize = command::MAX_LINE + 1;
-
-// What a read brought: how many bytes, 0 at the end of the input; or that it failed.
-struct Came {
-    count: usize,
-    failed: bool,
-}
 
 // How many bytes of an input are answered, and whether the answers could be written.
 struct Answered {
@@ -24,29 +18,33 @@ struct Answered {
     is_written: bool,
 }
 
-// How many bytes of a line that is not complete are held at the start of the buffer, and whether to go on.
+// Where the bytes that are not answered yet stand in the buffer, and whether to go on.
 struct Rest {
-    held: usize,
+    from: usize,
+    to: usize,
     goes_on: bool,
 }
 
-// Reads once, behind the bytes that are held. Where reading fails, that is said.
-fn read_behind(buffer: &mut [u8], held: usize) -> Came
+// Reads once, behind the bytes that are held, and goes on unless the input has ended. Where reading fails, that is said, and nothing is left: the
+// rest of what is held is not known.
+fn read_behind(buffer: &mut [u8], held: usize) -> Rest
     requires { ⌜ held ≤ length (now buffer) ⌝ }
-    ensures { λ r. ⌜ held + r .count ≤ length (now (buffer .exit)) ⌝ }
+    ensures { λ r. ⌜ (r .from ≤ r .to) × (r .to ≤ length (now (buffer .exit))) ⌝ }
 {
     let got = libc::read(STDIN_FILENO, &mut buffer[held..]);
     if got < 0 {
         os::fail(b"leapsec: standard input");
-        return Came {
-            count: 0,
-            failed: true,
+        return Rest {
+            from: 0,
+            to: 0,
+            goes_on: false,
         };
     }
     let count = io::count(got, &buffer[held..]);
-    Came {
-        count,
-        failed: false,
+    Rest {
+        from: 0,
+        to: held + count,
+        goes_on: 0 < count,
     }
 }
 
@@ -64,8 +62,11 @@ fn answer_lines(
     command::answer_lines(input, out)
 }
 
-// Writes the answer to a last line that has no LF: a question, or in a trace refusal 20.
+// Writes the answer to a last line that has no LF, if there is one: a question, or in a trace refusal 20.
 fn print_last(line: &[u8], replays: bool) {
+    if line.len() == 0 {
+        return;
+    }
     if replays {
         let mut out = [0u8; replay::MAX_PRINTED];
         let w = replay::replay_end(line, &mut out);
@@ -93,38 +94,6 @@ fn answer_some(
     Answered { used, is_written }
 }
 
-// Writes the answers to all complete lines of an input.
-fn answer_complete(
-    input: &[u8],
-    replays: bool,
-    current: &mut [u32; 514],
-    stored: &mut [u32; 514],
-) -> Answered
-    ensures { λ r. ⌜ r .used ≤ length (now (input .entry)) ⌝ }
-{
-    let mut used: usize = 0;
-    while used < input.len() {
-        let some = answer_some(&input[used..], replays, current, stored);
-        if !some.is_written {
-            return Answered {
-                used,
-                is_written: false,
-            };
-        }
-        if some.used == 0 {
-            return Answered {
-                used,
-                is_written: true,
-            };
-        }
-        used += some.used;
-    }
-    Answered {
-        used,
-        is_written: true,
-    }
-}
-
 fn least(a: usize, b: usize) -> usize
     ensures { λ r. ⌜ (r ≤ a) × (r ≤ b) ⌝ }
 {
@@ -145,39 +114,42 @@ fn hold(buffer: &mut [u8], from: usize, to: usize) -> usize
     held
 }
 
-// Reads once and answers the lines that are then complete; at the end of the input, the last line if it has no LF. Where reading fails, what
-// is held of a line is not answered: the rest of it is not known.
+// Reads where no line is complete; at the end of the input answers the last line, if it has no LF.
+fn more(buffer: &mut [u8], from: usize, to: usize, replays: bool) -> Rest
+    requires { ⌜ (from ≤ to) × (to ≤ length (now buffer)) ⌝ }
+    ensures { λ r. ⌜ (r .from ≤ r .to) × (r .to ≤ length (now (buffer .exit))) ⌝ }
+{
+    let held = hold(buffer, from, to);
+    let rest = read_behind(buffer, held);
+    if rest.goes_on {
+        return rest;
+    }
+    let end = rest.to;
+    print_last(&buffer[..end], replays);
+    rest
+}
+
+// Answers complete lines, or reads where no line is complete.
 fn turn(
     buffer: &mut [u8],
-    held: usize,
+    from: usize,
+    to: usize,
     replays: bool,
     current: &mut [u32; 514],
     stored: &mut [u32; 514],
 ) -> Rest
-    requires { ⌜ held ≤ length (now buffer) ⌝ }
-    ensures { λ r. ⌜ r .held ≤ length (now (buffer .exit)) ⌝ }
+    requires { ⌜ (from ≤ to) × (to ≤ length (now buffer)) ⌝ }
+    ensures { λ r. ⌜ (r .from ≤ r .to) × (r .to ≤ length (now (buffer .exit))) ⌝ }
 {
-    let came = read_behind(buffer, held);
-    if came.failed {
-        return Rest {
-            held: 0,
-            goes_on: false,
-        };
+    let done = answer_some(&buffer[from..to], replays, current, stored);
+    if done.used == 0 {
+        return more(buffer, from, to, replays);
     }
-    if came.count == 0 {
-        if 0 < held {
-            print_last(&buffer[..held], replays);
-        }
-        return Rest {
-            held: 0,
-            goes_on: false,
-        };
+    Rest {
+        from: from + done.used,
+        to,
+        goes_on: done.is_written,
     }
-    let end = held + came.count;
-    let done = answer_complete(&buffer[..end], replays, current, stored);
-    let goes_on = done.is_written;
-    let held = hold(buffer, done.used, end);
-    Rest { held, goes_on }
 }
 
 // Answers the lines of standard input to its end: questions, or a trace, which starts with two blank lists. A proved loop has to end, and nothing
@@ -186,14 +158,16 @@ pub(crate) fn answer(replays: bool) {
     let mut buffer = io::large_buffer();
     let mut current = [0u32; 514];
     let mut stored = [0u32; 514];
-    let mut held: usize = 0;
+    let mut from: usize = 0;
+    let mut to: usize = 0;
     let mut turns = u64::MAX;
     while turns > 0 {
-        let t = turn(&mut buffer, held, replays, &mut current, &mut stored);
+        let t = turn(&mut buffer, from, to, replays, &mut current, &mut stored);
         if !t.goes_on {
             return;
         }
-        held = t.held;
+        from = t.from;
+        to = t.to;
         turns -= 1;
     }
 }

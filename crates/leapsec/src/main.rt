@@ -1,47 +1,19 @@
 // Answers the question that its arguments are, or every line of its standard input. The crates `command` and `replay` make the answers; here bytes
 // are moved.
-ghost use Prim.Native.Nat.{_≤_};
-ghost use lib.ListN.{length};
-ghost use Rattle.io.specs.Counts.{Counts};
 
-mod help; // help.rt: the help texts
 mod lines; // lines.rt: the lines of standard input, questions or a trace
 mod output; // output.rt: standard output
 
 use crate::output::print_answer;
-use crate::output::within;
-use crate::output::write;
-use format::output::put;
 use format::parts::part_end;
-use format::parts::same;
 use line::words::Word;
 use line::words::word_of;
-
-// Puts an argument behind the start of a line and returns how long the line is then: all of it where it has no room for the argument.
-fn put_argument(line: &mut [u8], at: usize, i: usize) -> usize
-    requires { ⌜ at ≤ length (now line) ⌝ }
-    ensures { λ r. ⌜ r ≤ length (now (line .exit)) ⌝ }
-{
-    let n = os::arg(i, &mut line[at..]);
-    if os::errno() != 0 {
-        return line.len();
-    }
-    at + n
-}
-
-// Puts the arguments from the first to before `count`, a space between them, and returns how long the line is.
-fn put_arguments(line: &mut [u8], count: usize) -> usize
-    ensures { λ r. ⌜ Counts r (now (line .exit)) ⌝ }
-{
-    let mut at = put_argument(line, 0, 1);
-    let mut i: usize = 2;
-    while i < count {
-        at = put(line, at, b' ');
-        at = put_argument(line, at, i);
-        i += 1;
-    }
-    within(at, line)
-}
+use shell::arguments::put_arguments;
+use shell::help;
+use shell::output::within;
+use shell::output::write;
+use shell::words::Own;
+use shell::words::own_of;
 
 // Answers `ask`, by what stands behind the word: nothing may.
 fn run_ask(rest: &[u8]) {
@@ -70,23 +42,20 @@ fn run_help(rest: &[u8]) {
     help::print_word(&rest[1..]);
 }
 
-// Answers a line whose first word is none of a question's, by that word and what stands behind it.
-fn run_own(word: &[u8], rest: &[u8]) {
-    if same(word, b"ask") {
-        run_ask(rest);
-        return;
-    }
-    if same(word, b"replay") {
-        run_replay(rest);
-        return;
-    }
-    if same(word, b"help") {
-        run_help(rest);
-        return;
-    }
+fn print_expected() {
     write(
         b"? expected: show, nybbles, text, dtai, tai, utc, uts, unsmooth, compare, longer, ask, replay or help\n",
     );
+}
+
+// Answers a line whose first word is none of a question's, by that word and what stands behind it.
+fn run_own(word: &[u8], rest: &[u8]) {
+    match own_of(word) {
+        Own::Ask => run_ask(rest),
+        Own::Replay => run_replay(rest),
+        Own::Help => run_help(rest),
+        Own::Other => print_expected(),
+    }
 }
 
 // Answers a line: a question, or a word of the program's own.

@@ -8,4 +8,5 @@ pub mod Runs
 pub mod OneLine
 pub mod Steady
 pub mod States
+mod Lists
 pub mod Worked

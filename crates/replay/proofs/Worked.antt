@@ -1,6 +1,6 @@
 -- Traces worked by hand: the answers to their lines, from two blank lists, as one table under one claim; and of some the bytes printed.
 -- Assumes nothing.
-use mathlib.Core.Path.{_≡_, refl}
+use mathlib.Core.Path.{_≡_, refl, ap, _∙_}
 use mathlib.Core.List.{List, [], _∷_}
 use Prim.Native.String.{String}
 use Rattle.format.specs.Ascii.{ascii, within}
@@ -9,15 +9,15 @@ use Rattle.format.specs.Parts.{parts}
 use Rattle.format.specs.Refusal.{refusal}
 use Rattle.calendar.specs.Calendar.{isLeapYear, monthLengths, daysInMonth, monthStart}
 use Rattle.schedule.specs.Schedule.{gapsFit}
-use Rattle.schedule.specs.WordLayout.{wordsOf, leapWords, meant, sameWords, leapsIn}
 use Rattle.text.specs.Read.{readFrom, readText}
 use Rattle.clock.specs.Known.{knownTo}
 use Rattle.clock.specs.Smoothed.{uts}
 use Rattle.stream.specs.Lines.{linesOf, sizeOf}
-use Rattle.stream.specs.Stream.{printed}
 use Rattle.replay.specs.Trace.{shortNumber, meaning}
-use Rattle.replay.specs.Replay.{blankState, Reply, nothing, time, refuse, reply, next, shown, output}
-use Rattle.replay.specs.Times.{replies, repliesTo}
+use Rattle.replay.specs.Replay.{blankState, Reply, nothing, time, refuse, shown, output}
+use Rattle.replay.specs.Times.{repliesTo}
+use Rattle.replay.proofs.OneLine.{shownAll, prints-answers}
+use Rattle.replay.proofs.Lists.{answered, then, allAnswered, answeredTo, same-answers}
 
 -- a row: a trace and what its lines are answered, or what it prints
 pub data Row : Type 0 where
@@ -64,7 +64,21 @@ table =
     ∷ prints "Q 41498 0\nL 06+5?\n" "!11\n!3\n"
     ∷ []
 
+-- the same of a row by the lists of its trace, which computes sooner
+abbrev Computed : List Row → Type 0
+Computed [] = Unit {0}
+Computed (answers trace replies ∷ rs) = (answeredTo (ascii trace) ≡ replies) × Computed rs
+Computed (prints trace bytes ∷ rs) = (shownAll (answeredTo (ascii trace)) ≡ ascii bytes) × Computed rs
+
+say-all : (rs : List Row) → Computed rs → SayAll rs
+say-all [] c = tt
+say-all (answers trace replies ∷ rs) c = (same-answers (ascii trace) ∙ c .0, say-all rs (c .1))
+say-all (prints trace bytes ∷ rs) c = (prints-answers blankState (ascii trace) ∙ ap shownAll (same-answers (ascii trace)) ∙ c .0, say-all rs (c .1))
+
+computed : Computed table
+unfolding answeredTo allAnswered answered then shownAll shown linesOf sizeOf parts meaning shortNumber readText readFrom numberOf allDigits within valueAfter refusal decimal digitsIn isLeapYear monthLengths daysInMonth monthStart gapsFit knownTo uts
+computed = (refl, (refl, (refl, (refl, (refl, (refl, (refl, (refl, (refl, (refl, (refl, (refl, (refl, (refl, (refl, (refl, (refl, (refl, tt))))))))))))))))))
+
 -- every row of the table holds of the definitions
 pub worked : SayAll table
-unfolding repliesTo replies output printed shown linesOf sizeOf parts reply next meaning shortNumber readText readFrom numberOf allDigits within valueAfter refusal decimal digitsIn wordsOf leapWords meant sameWords leapsIn isLeapYear monthLengths daysInMonth monthStart gapsFit knownTo uts
-worked = (refl, (refl, (refl, (refl, (refl, (refl, (refl, (refl, (refl, (refl, (refl, (refl, (refl, (refl, (refl, (refl, (refl, (refl, tt))))))))))))))))))
+worked = say-all table computed

@@ -1,4 +1,4 @@
--- `command::put_of_time` meets its contract: the time is the last field, or a number is missing, and each word that takes a list, a day and a time. Assumes nothing.
+-- `command::put_of_time` meets its contract: the time is the last field, or a number is missing. Assumes nothing.
 use borrow.Author.Needs.{needs}
 use native.Mathlib.Omega.{arith}
 use Rattle.format.proofs.Putting.{few}
@@ -39,42 +39,15 @@ returns-3 c =
 
 returns-4 : tie.Need-returns-4
 returns-4 c =
-    let put-asked = c .before .before .put-asked in
-    let args = c .before .before .before .before .before .before .before .before .before .before .before .before .before .before .before .before .before .before .before .before .args in
-    let part-end = c .before .before .before .before .before .before .before .before .before .before .before .before .before .before .before .part-end in
-    let if1 = c .before .before .before .before .before .before .before .before .before .before .before .before .before .before .if1 in
-    let read-decimal = c .before .before .before .before .before .before .before .before .before .before .before .before .before .read-decimal in
-    let first = c .before .before .before .before .before .before .before .before .before .before .before .first in
-    let read-decimal2 = c .before .before .before .before .before .before .before .before .before .read-decimal2 in
-    let second = c .before .before .before .before .before .before .before .second in
-    let enum-told3 = c .before .before .before .before .enum-told3 in
-    few (put-asked .ensures) (one-field (args .rest .now) _ (part-end .ensures) _ _ (if1 .left) ∙ rw (← read-decimal .ensures, first .given .1, ← read-decimal2 .ensures, second .given .1, enum-told3 .given .1)) (omega arith)
-
-returns-5 : tie.Need-returns-5
-returns-5 c =
-    let put-asked2 = c .before .before .put-asked2 in
-    let args = c .before .before .before .before .before .before .before .before .before .before .before .before .before .before .before .before .before .before .before .before .args in
-    let part-end = c .before .before .before .before .before .before .before .before .before .before .before .before .before .before .before .part-end in
-    let if1 = c .before .before .before .before .before .before .before .before .before .before .before .before .before .before .if1 in
-    let read-decimal = c .before .before .before .before .before .before .before .before .before .before .before .before .before .read-decimal in
-    let first = c .before .before .before .before .before .before .before .before .before .before .before .first in
-    let read-decimal2 = c .before .before .before .before .before .before .before .before .before .read-decimal2 in
-    let second = c .before .before .before .before .before .before .before .second in
-    let enum-told4 = c .before .before .before .before .enum-told4 in
-    few (put-asked2 .ensures) (one-field (args .rest .now) _ (part-end .ensures) _ _ (if1 .left) ∙ rw (← read-decimal .ensures, first .given .1, ← read-decimal2 .ensures, second .given .1, enum-told4 .given .1)) (omega arith)
-
-returns-6 : tie.Need-returns-6
-returns-6 c =
-    let put-asked3 = c .before .before .put-asked3 in
-    let args = c .before .before .before .before .before .before .before .before .before .before .before .before .before .before .before .before .before .before .before .before .args in
-    let part-end = c .before .before .before .before .before .before .before .before .before .before .before .before .before .before .before .part-end in
-    let if1 = c .before .before .before .before .before .before .before .before .before .before .before .before .before .before .if1 in
-    let read-decimal = c .before .before .before .before .before .before .before .before .before .before .before .before .before .read-decimal in
-    let first = c .before .before .before .before .before .before .before .before .before .before .before .first in
-    let read-decimal2 = c .before .before .before .before .before .before .before .before .before .read-decimal2 in
-    let second = c .before .before .before .before .before .before .before .second in
-    let enum-told5 = c .before .before .before .before .enum-told5 in
-    few (put-asked3 .ensures) (one-field (args .rest .now) _ (part-end .ensures) _ _ (if1 .left) ∙ rw (← read-decimal .ensures, first .given .1, ← read-decimal2 .ensures, second .given .1, enum-told5 .given .1)) (omega arith)
+    let put-at-time = c .before .before .put-at-time in
+    let args = c .before .before .before .before .before .before .before .before .before .before .before .before .before .before .before .before .before .before .args in
+    let part-end = c .before .before .before .before .before .before .before .before .before .before .before .before .before .part-end in
+    let if1 = c .before .before .before .before .before .before .before .before .before .before .before .before .if1 in
+    let read-decimal = c .before .before .before .before .before .before .before .before .before .before .before .read-decimal in
+    let first = c .before .before .before .before .before .before .before .before .before .first in
+    let read-decimal2 = c .before .before .before .before .before .before .before .read-decimal2 in
+    let second = c .before .before .before .before .before .second in
+    few (put-at-time .ensures) (one-field (args .rest .now) _ (part-end .ensures) _ _ (if1 .left) ∙ rw (← read-decimal .ensures, first .given .1, ← read-decimal2 .ensures, second .given .1)) (omega arith)
 
 pub put-of-time-spec : {M : Type 1} → statement M
 put-of-time-spec =
@@ -96,15 +69,6 @@ put-of-time-spec =
     (λ c κs. search needs)
     (λ c. search needs)
     returns-3
-    (λ c. search needs)
     (λ c κs. search needs)
     (λ c. search needs)
-    (λ c κs. search needs)
-    (λ c. search needs)
-    (λ c κs. search needs)
-    (λ c. search needs)
-    returns-4
-    (λ c. search needs)
-    returns-5
-    (λ c. search needs)
-    returns-6)
+    returns-4)

@@ -21,8 +21,8 @@ small : (z : ℤ) → mag z < 2147483648 → natAbs z < 4294967296
 small (pos n) m = omega arith
 small (negsuc n) m = omega arith
 
-cast-number : tie.Need-cast-number
-cast-number c =
+cast-last : tie.Need-cast-last
+cast-last c =
     let z = c .before .before .before .d .given .0 .0 in
     let m = c .before .before .known-told .given .0 .1 in
     let same : toZ w32 (ofZ w32 z) ≡ z = toZ-ofZ w32 z (record { sfits = m }) in
@@ -36,11 +36,11 @@ dtai-spec =
     (λ c κs. search needs)
     (λ c. search needs)
     (λ c κs. search needs)
-    cast-number
+    cast-last
     (λ c κs. search needs)
     (λ c. search needs)
     (λ c. search needs)
     (λ c κs. search needs)
     (λ c. search needs)
-    (λ c κs. search needs)
+    (λ c. search needs)
     (λ c. search needs))

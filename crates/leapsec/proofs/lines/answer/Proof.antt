@@ -1,4 +1,4 @@
--- `leapsec::lines::answer` is safe and ends: the turns that are left fall. The buffer keeps its length, and what is held lies within it.
+-- `leapsec::lines::answer` is safe and ends: the turns that are left fall. The buffer keeps its length, and what is not answered lies within it.
 -- Assumes nothing.
 use borrow.Author.Needs.{needs}
 use Prim.Native.Nat.{_≤_}
@@ -8,10 +8,10 @@ use Rattle.leapsec.proofs.lines.answer.Statement.{statement}
 use Rattle.leapsec.proofs.lines.answer.Tie as tie
 
 abbrev Inv-loop : tie.InvT-loop
-Inv-loop replays buffer₀ current₀ stored₀ held₀ turns₀ buffer current stored held turns = (65536 ≡ length buffer) × (held ≤ 65536)
+Inv-loop replays buffer₀ current₀ stored₀ from₀ to₀ turns₀ buffer current stored from to turns = (65536 ≡ length buffer) × ((from ≤ to) × (to ≤ 65536))
 
 abbrev μ-loop : tie.MeasureT-loop
-μ-loop replays buffer₀ current₀ stored₀ held₀ turns₀ buffer current stored held turns = turns
+μ-loop replays buffer₀ current₀ stored₀ from₀ to₀ turns₀ buffer current stored from to turns = turns
 
 pub answer-spec : {M : Type 1} → statement M
 answer-spec =

@@ -1,10 +1,10 @@
--- `leapsec::put_arguments` is safe and ends. The line keeps its length, and what is put stays within it. Assumes nothing.
+-- `shell::arguments::put_arguments` is safe and ends. The line keeps its length, and what is put stays within it. Assumes nothing.
 use borrow.Author.Needs.{needs}
 use Prim.Native.Nat.{_-_, _≤_}
 use mathlib.Core.Path.{_≡_}
 use lib.ListN.{length}
-use Rattle.leapsec.proofs.put_arguments.Statement.{statement}
-use Rattle.leapsec.proofs.put_arguments.Tie as tie
+use Rattle.shell.proofs.arguments.put_arguments.Statement.{statement}
+use Rattle.shell.proofs.arguments.put_arguments.Tie as tie
 
 abbrev Inv-loop : tie.InvT-loop
 Inv-loop line₀ count at₀ i₀ line at i = (length line ≡ length line₀) × (at ≤ length line₀)

@@ -1,11 +1,12 @@
 // The help texts. A test runs every example in them.
 use crate::output::write;
-use format::parts::same;
+use crate::words::Own;
+use crate::words::own_of;
 use line::words::Word;
 use line::words::word_of;
 
 // Writes what the program answers.
-pub(crate) fn print() {
+pub fn print() {
     write(
         b"Answers questions about leap seconds, under a list of them.\n\
 \n\
@@ -202,27 +203,24 @@ leapsec utc LIST TAI\n",
     );
 }
 
-// Writes what a word of the program's own does, or what was expected.
-fn print_own(word: &[u8]) {
-    if same(word, b"ask") {
-        print_ask();
-        return;
-    }
-    if same(word, b"replay") {
-        print_replay();
-        return;
-    }
-    if same(word, b"help") {
-        print_help();
-        return;
-    }
+fn print_expected() {
     write(
         b"? expected: help WORD, WORD being show, nybbles, text, dtai, tai, utc, uts, unsmooth, compare, longer, ask, replay or help\n",
     );
 }
 
+// Writes what a word of the program's own does, or what was expected.
+fn print_own(word: &[u8]) {
+    match own_of(word) {
+        Own::Ask => print_ask(),
+        Own::Replay => print_replay(),
+        Own::Help => print_help(),
+        Own::Other => print_expected(),
+    }
+}
+
 // Writes what a word asks, with an example.
-pub(crate) fn print_word(word: &[u8]) {
+pub fn print_word(word: &[u8]) {
     match word_of(word) {
         Word::Show => print_show(),
         Word::Nybbles => print_nybbles(),
