@@ -52,7 +52,7 @@ table =
     ∷ answers true "longer  06+5?" "!1"
     ∷ answers true "longer 5? 06+5?" "!3"
     -- `current` names the embedded list in either place
-    ∷ answers true "longer current 6+6+12?" "6+6+12+12+12+12+12+12+12+18+12+12+24+30+24+12+18+12+12+18+18+18+84+36+42+36+18+125?"
+    ∷ answers true "longer current 5" "!1"
     ∷ answers true "longer 6+6+12? current" "6+6+12+12+12+12+12+12+12+18+12+12+24+30+24+12+18+12+12+18+18+18+84+36+42+36+18+125?"
     -- two lists, and no more
     ∷ answers true "compare 5?" "? expected: compare LIST LIST"
