@@ -1,6 +1,6 @@
 -- The loops that answer many questions: what they keep from turn to turn, and what the calls then hand over.
 -- Assumes nothing.
-use mathlib.Core.Bool.{true}
+use mathlib.Core.Bool.{false}
 use mathlib.Core.List.{List, [], _∷_, map, zipWith}
 use mathlib.Core.Path.{_≡_, refl, sym, ap, ap₂, _∙_}
 use Prim.Native.Nat.{ℕ, zero, suc, _+_, _-_, _*_, _≤_, _<_, min}
@@ -11,22 +11,15 @@ use Rattle.calendar.specs.Calendar.{endDay}
 use Rattle.schedule.specs.declared.Sign.the-variants.{Positive, Negative}
 use Rattle.schedule.specs.Schedule.{Schedule, wellFormed}
 use Rattle.schedule.specs.WordLayout.{expiryWord, meant}
+use Rattle.refusals.specs.Refusals.{notWellFormed}
+use Rattle.clock.proofs.Checks.{stop}
 use Rattle.clock.specs.Question.{Answer, refused, Utc, number, orZero}
 use Rattle.clock.specs.Answers.{HandsValue, HandsUtc}
-use Rattle.many.specs.Private.{Starts, Fenced, Tallies, Guesses, Prepared, Ready, Overwritten}
+use Rattle.many.specs.Private.{question, Overwritten}
+use Rattle.many.specs.declared.replies.Asked.{Asked}
+use Rattle.many.specs.declared.replies.Asked.the-variants.{Tai, Uts, Micros}
 use Rattle.many.specs.Many.{overwrite, dayOrZero, microsOrZero, HandsMany, HandsManyUtc}
-use Rattle.many.proofs.Preparing.{prepared-list, ready-list}
 use Rattle.many.proofs.Overwriting.{none-written, one-written, part-written, At, at-one, at-two, zip-length}
-
--- ---- a list that is prepared for a schedule
-pub record ReadyFor (s : Schedule) (last : ℕ) (starts ups downs guesses : List ℕ) : Type 0 where
-  pub ready : Ready last starts guesses
-  pub prepared : Prepared s last starts ups downs
-
-pub ready-for : (words : List ℕ) {expiry last : ℕ} {starts ups downs guesses : List ℕ} → wellFormed (meant words) ≡ true → expiry ≡ expiryWord words → (expiry ≤ endDay → last ≡ expiry - 1) × (last < endDay)
-    → Fenced starts × Starts (meant words) starts → Tallies (meant words) Positive ups → Tallies (meant words) Negative downs → Guesses starts guesses
-    → ReadyFor (meant words) last starts ups downs guesses
-ready-for words w x l f u d g = record { ready = ready-list words w x l f u d g; prepared = prepared-list words w x l f u d g }
 
 -- ---- a loop that puts one element in the first n places, at place i
 pub record Repeating {A : Type 0} (v : A) (n : ℕ) (old array : List A) (i : ℕ) : Type 0 where
@@ -211,6 +204,12 @@ module _ {A : Type 0} {none : A} (ask : ℕ → ℕ → Answer A) (xs ys : List 
         its-numbers = refused-all number (zipWith ask xs ys) r (length (zipWith ask xs ys)) alike n h p;
         its-values = refused-all (orZero none) (zipWith ask xs ys) r (length (zipWith ask xs ys)) alike n h q;
       }
+
+-- under a list that is not well formed every question is refused
+pub none-asked : (asked : Asked) (s : Schedule) → wellFormed s ≡ false → (x y : ℕ) → question asked s x y ≡ refused notWellFormed
+none-asked Tai s e x y = stop _ notWellFormed e
+none-asked Uts s e x y = stop _ notWellFormed e
+none-asked Micros s e x y = stop _ notWellFormed e
 
 module _ (ask : ℕ → Answer Utc) (xs : List ℕ) {n : ℕ} {numbers numbers′ days days′ micros micros′ : List ℕ}
     (e : n ≡ min (min (length xs) (length numbers)) (min (length days) (length micros))) where

@@ -6,7 +6,8 @@ ghost use Rattle.schedule.specs.Schedule.{Schedule};
 ghost use Rattle.clock.specs.Question.{utcToTai, utcToUts, utsToUtc};
 ghost use Rattle.clock.specs.Answers.{HandsValue};
 ghost use Rattle.refusals.specs.Refusals.{notWellFormed};
-ghost use Rattle.many.specs.Private.{Prepared, Ready, Overwritten};
+ghost use Rattle.many.specs.Private.{Prepared, Ready, Overwritten, question};
+use crate::stretches::LAST;
 use crate::stretches::found;
 use clock::NANOS_CUTOFF;
 use clock::UTS_CUTOFF;
@@ -29,20 +30,19 @@ pub(crate) struct Reply {
     pub(crate) value: u64,
 }
 
+// The three questions about a day and a time of it that are answered with one number.
+pub(crate) enum Asked {
+    Tai,
+    Uts,
+    Micros,
+}
+
 // UTC to TAI.
-pub(crate) fn reply_tai(
-    starts: &[u64; 258],
-    ups: &[u16; 258],
-    downs: &[u16; 258],
-    guesses: &[u16; 894],
-    last: u64,
-    day: u64,
-    micros: u64,
-) -> Reply
-    requires { ⌜ Ready last (now starts) (now guesses) ⌝ }
-    ensures { λ r. ⌜ ((s : Schedule) → Prepared s last (now (starts .entry)) (now (ups .entry)) (now (downs .entry)) → HandsValue 0 (utcToTai s day micros) (r .number) (r .value)) ⌝ }
+fn reply_tai(prepared: &[u32; 1669], day: u64, micros: u64) -> Reply
+    requires { ⌜ Ready (now prepared) ⌝ }
+    ensures { λ r. ⌜ ((s : Schedule) → Prepared s (now (prepared .entry)) → HandsValue 0 (utcToTai s day micros) (r .number) (r .value)) ⌝ }
 {
-    let a = tai_on(found(starts, ups, downs, guesses, last, day), day, micros);
+    let a = tai_on(found(prepared, day), day, micros);
     Reply {
         number: tai_number(a),
         value: tai_value(a),
@@ -50,26 +50,18 @@ pub(crate) fn reply_tai(
 }
 
 // UTC to smoothed time. How the day ends is looked for only where it matters.
-pub(crate) fn reply_uts(
-    starts: &[u64; 258],
-    ups: &[u16; 258],
-    downs: &[u16; 258],
-    guesses: &[u16; 894],
-    last: u64,
-    day: u64,
-    micros: u64,
-) -> Reply
-    requires { ⌜ Ready last (now starts) (now guesses) ⌝ }
-    ensures { λ r. ⌜ ((s : Schedule) → Prepared s last (now (starts .entry)) (now (ups .entry)) (now (downs .entry)) → HandsValue 0 (utcToUts s day micros) (r .number) (r .value)) ⌝ }
+fn reply_uts(prepared: &[u32; 1669], day: u64, micros: u64) -> Reply
+    requires { ⌜ Ready (now prepared) ⌝ }
+    ensures { λ r. ⌜ ((s : Schedule) → Prepared s (now (prepared .entry)) → HandsValue 0 (utcToUts s day micros) (r .number) (r .value)) ⌝ }
 {
     if micros < UTS_CUTOFF {
-        let a = early_uts(last, day, micros);
+        let a = early_uts(prepared[LAST] as u64, day, micros);
         return Reply {
             number: uts_number(a),
             value: uts_value(a),
         };
     }
-    let a = uts_on(found(starts, ups, downs, guesses, last, day), day, micros);
+    let a = uts_on(found(prepared, day), day, micros);
     Reply {
         number: uts_number(a),
         value: uts_value(a),
@@ -77,29 +69,33 @@ pub(crate) fn reply_uts(
 }
 
 // Smoothed time to UTC, likewise.
-pub(crate) fn reply_micros(
-    starts: &[u64; 258],
-    ups: &[u16; 258],
-    downs: &[u16; 258],
-    guesses: &[u16; 894],
-    last: u64,
-    day: u64,
-    nanos: u64,
-) -> Reply
-    requires { ⌜ Ready last (now starts) (now guesses) ⌝ }
-    ensures { λ r. ⌜ ((s : Schedule) → Prepared s last (now (starts .entry)) (now (ups .entry)) (now (downs .entry)) → HandsValue 0 (utsToUtc s day nanos) (r .number) (r .value)) ⌝ }
+fn reply_micros(prepared: &[u32; 1669], day: u64, nanos: u64) -> Reply
+    requires { ⌜ Ready (now prepared) ⌝ }
+    ensures { λ r. ⌜ ((s : Schedule) → Prepared s (now (prepared .entry)) → HandsValue 0 (utsToUtc s day nanos) (r .number) (r .value)) ⌝ }
 {
     if nanos < NANOS_CUTOFF {
-        let a = early_micros(last, day, nanos);
+        let a = early_micros(prepared[LAST] as u64, day, nanos);
         return Reply {
             number: micros_number(a),
             value: micros_value(a),
         };
     }
-    let a = micros_on(found(starts, ups, downs, guesses, last, day), day, nanos);
+    let a = micros_on(found(prepared, day), day, nanos);
     Reply {
         number: micros_number(a),
         value: micros_value(a),
+    }
+}
+
+// What is asked.
+pub(crate) fn reply_to(asked: Asked, prepared: &[u32; 1669], day: u64, time: u64) -> Reply
+    requires { ⌜ Ready (now prepared) ⌝ }
+    ensures { λ r. ⌜ ((s : Schedule) → Prepared s (now (prepared .entry)) → HandsValue 0 (question asked s day time) (r .number) (r .value)) ⌝ }
+{
+    match asked {
+        Asked::Tai => reply_tai(prepared, day, time),
+        Asked::Uts => reply_uts(prepared, day, time),
+        Asked::Micros => reply_micros(prepared, day, time),
     }
 }
 

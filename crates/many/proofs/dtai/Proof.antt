@@ -12,16 +12,18 @@ use Rattle.clock.specs.Question.{dtaiOn}
 use Rattle.clock.specs.Answers.{dtaiAnswer, dtaiNumber, dtaiValue}
 use Rattle.clock.proofs.Checks.{passed, failed, stop}
 use Rattle.clock.proofs.Numbers.{dtai-told, hands-value}
-use Rattle.many.proofs.Answering.{ReadyFor, ready-for, Filling, start-one, turn-one, all-answered, hands-one, refuses-one}
+use Rattle.many.specs.Private.{Ready, Prepared}
+use Rattle.many.proofs.Preparing.{all-clear}
+use Rattle.many.proofs.Answering.{Filling, start-one, turn-one, all-answered, hands-one, refuses-one}
 use Rattle.many.proofs.dtai.Statement.{statement}
 use Rattle.many.proofs.dtai.Tie as tie
 
 abbrev Inv-loop : tie.InvT-loop
-Inv-loop words days numbers₀ dtais₀ n last starts ups downs guesses i₀ numbers dtais i =
-    ReadyFor (meant words) last starts ups downs guesses × Filling (pos 0) (map (dtaiOn (meant words)) days) n numbers₀ dtais₀ numbers dtais i
+Inv-loop words days numbers₀ dtais₀ n prepared i₀ numbers dtais i =
+    Ready prepared × Prepared (meant words) prepared × Filling (pos 0) (map (dtaiOn (meant words)) days) n numbers₀ dtais₀ numbers dtais i
 
 abbrev μ-loop : tie.MeasureT-loop
-μ-loop words days numbers₀ dtais₀ n last starts ups downs guesses i₀ numbers dtais i = n - i
+μ-loop words days numbers₀ dtais₀ n prepared i₀ numbers dtais i = n - i
 
 -- words that are no list
 returns : tie.Need-returns Inv-loop μ-loop
@@ -35,65 +37,48 @@ returns c =
 
 loop-holds : tie.Need-loop-holds Inv-loop μ-loop
 loop-holds c =
-    let shorter2 = c .before .before .before .before .before .before .before .before .before .shorter2 in
-    let args = c .before .before .before .before .before .before .before .before .before .before .before .before .before .args in
-    let shorter = c .before .before .before .before .before .before .before .before .before .before .shorter in
-    let is-list = c .before .before .before .before .before .before .before .before .is-list in
-    let if1 = c .before .before .before .before .before .before .before .if1 in
-    let expiry-of = c .before .before .before .before .before .before .expiry-of in
-    let day-before = c .before .before .before .before .before .day-before in
-    let starts-of = c .before .before .before .before .starts-of in
-    let tallies-of = c .before .before .before .tallies-of in
-    let tallies-of2 = c .before .before .tallies-of2 in
-    let guesses-of = c .guesses-of in
-    let good = c .before .before .before .before .before .before .before .before .before .before .before .before .before .good in
+    let shorter2 = c .before .before .before .before .shorter2 in
+    let args = c .before .before .before .before .before .before .before .before .args in
+    let shorter = c .before .before .before .before .before .shorter in
+    let prepare = c .prepare in
+    let good = c .before .before .before .before .before .before .before .before .good in
     let few : shorter2 .result ≡ min (length (args .days .now)) (min (length (args .numbers .now)) (length (args .dtais .now))) =
     omega (arith, shorter .ensures, shorter2 .ensures) in
-    (ready-for (args .words .now) (passed (is-list .ensures) (if1 .left)) (expiry-of .ensures) (day-before .ensures) (starts-of .ensures) (tallies-of .ensures) (tallies-of2 .ensures) (guesses-of .ensures), start-one (dtaiOn (meant (args .words .now))) (args .days .now) (good .1 .0 .1) few)
+    (prepare .ensures .0, prepare .ensures .1, start-one (dtaiOn (meant (args .words .now))) (args .days .now) (good .1 .0 .1) few)
 
-starts-of-requires : tie.Need-starts-of-requires Inv-loop μ-loop
-starts-of-requires c κs =
-    let is-list = c .before .before .before .is-list in
-    let if1 = c .before .before .if1 in
-    passed (is-list .ensures) (if1 .left)
-
-tallies-of-requires : tie.Need-tallies-of-requires Inv-loop μ-loop
-tallies-of-requires c κs =
-    let is-list = c .before .before .before .before .is-list in
-    let if1 = c .before .before .before .if1 in
-    passed (is-list .ensures) (if1 .left)
-
-tallies-of-requires-2 : tie.Need-tallies-of-requires-2 Inv-loop μ-loop
-tallies-of-requires-2 c κs =
-    let is-list = c .before .before .before .before .before .is-list in
-    let if1 = c .before .before .before .before .if1 in
-    passed (is-list .ensures) (if1 .left)
+prepare-requires : tie.Need-prepare-requires Inv-loop μ-loop
+prepare-requires c =
+    let is-list = c .before .before .is-list in
+    let if1 = c .before .if1 in
+    λ κs.
+    (passed (is-list .ensures) (if1 .left), all-clear .0, all-clear .1)
 
 found-requires : tie.Need-found-requires Inv-loop μ-loop
-found-requires c κs =
-    let loop = c .before .before .before .before .before .before .loop in
-    loop .inv .0 .ready
+found-requires c =
+    let loop = c .before .before .before .loop in
+    λ κs.
+    loop .inv .0
 
 loop-again : tie.Need-loop-again Inv-loop μ-loop
 loop-again c =
-    let args = c .before .before .before .before .before .before .before .before .before .before .before .before .before .before .before .before .before .before .before .before .before .before .before .before .args in
+    let args = c .before .before .before .before .before .before .before .before .before .before .before .before .before .before .before .before .args in
     let dtai-value = c .dtai-value in
     let dtai-on = c .before .before .dtai-on in
     let found = c .before .before .before .found in
-    let loop = c .before .before .before .before .before .before .before .before .before .before .loop in
-    let loop-test = c .before .before .before .before .before .before .before .before .before .loop-test in
+    let loop = c .before .before .before .before .before .before .before .loop in
+    let loop-test = c .before .before .before .before .before .before .loop-test in
     let dtai-number = c .before .dtai-number in
     let s = meant (args .words .now) in
     let value = dtai-value .ensures .1 .kept ∙ dtai-value .ensures .0 in
-    let answer = dtai-on .ensures s (found .ensures s (loop .inv .0 .prepared)) in
-    (loop .inv .0, turn-one (dtaiOn s) (args .days .now) (loop .inv .1) (loop-test .taken) (hands-value (pos 0) dtaiAnswer dtaiNumber dtaiValue dtai-told _ (dtai-on .result) answer _ (dtai-number .ensures) _ value))
+    let answer = dtai-on .ensures s (found .ensures s (loop .inv .1)) in
+    (loop .inv .0, loop .inv .1, turn-one (dtaiOn s) (args .days .now) (loop .inv .2) (loop-test .taken) (hands-value (pos 0) dtaiAnswer dtaiNumber dtaiValue dtai-told _ (dtai-on .result) answer _ (dtai-number .ensures) _ value))
 
 returns-2 : tie.Need-returns-2 Inv-loop μ-loop
 returns-2 c =
-    let args = c .before .before .before .before .before .before .before .before .before .before .before .before .before .before .before .args in
+    let args = c .before .before .before .before .before .before .before .before .before .before .args in
     let loop = c .before .loop in
     let loop-test = c .loop-test in
-    hands-one (dtaiOn (meant (args .words .now))) (args .days .now) (omega arith) (all-answered (loop .inv .1) (loop-test .left))
+    hands-one (dtaiOn (meant (args .words .now))) (args .days .now) (omega arith) (all-answered (loop .inv .2) (loop-test .left))
 
 pub dtai-spec : {M : Type 1} → statement M
 dtai-spec =
@@ -108,12 +93,7 @@ dtai-spec =
     (λ c. search needs)
     (λ c. search needs)
     returns
-    (λ c κs. search needs)
-    (λ c κs. search needs)
-    starts-of-requires
-    tallies-of-requires
-    tallies-of-requires-2
-    (λ c κs. search needs)
+    prepare-requires
     loop-holds
     (λ c. omega arith)
     (λ c. omega arith)

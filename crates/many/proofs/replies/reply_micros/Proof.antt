@@ -7,11 +7,13 @@ use Rattle.many.proofs.replies.reply_micros.Statement.{statement}
 use Rattle.many.proofs.replies.reply_micros.Tie as tie
 
 returns : tie.Need-returns
-returns c s p =
+returns c =
     let early-micros = c .before .before .early-micros in
+    let if1 = c .before .before .before .before .if1 in
     let micros-number = c .before .micros-number in
     let micros-value = c .micros-value in
-    hands-value 0 microsAnswer microsNumber microsValue micros-told _ _ (early-micros .ensures s (list-in p) (c .before .before .before .if1 .taken)) _ (micros-number .ensures) _ (micros-value .ensures)
+    λ s p.
+    hands-value 0 microsAnswer microsNumber microsValue micros-told _ _ (early-micros .ensures s (list-in p) (if1 .taken)) _ (micros-number .ensures) _ (micros-value .ensures)
 
 returns-2 : tie.Need-returns-2
 returns-2 c s p =
@@ -25,6 +27,8 @@ pub reply-micros-spec : {M : Type 1} → statement M
 reply-micros-spec =
     tie.close
     (tie.spec
+    (λ c. search needs)
+    (λ c. search needs)
     (λ c κs. search needs)
     (λ c κs. search needs)
     (λ c κs. search needs)

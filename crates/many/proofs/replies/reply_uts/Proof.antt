@@ -7,11 +7,13 @@ use Rattle.many.proofs.replies.reply_uts.Statement.{statement}
 use Rattle.many.proofs.replies.reply_uts.Tie as tie
 
 returns : tie.Need-returns
-returns c s p =
+returns c =
     let early-uts = c .before .before .early-uts in
+    let if1 = c .before .before .before .before .if1 in
     let uts-number = c .before .uts-number in
     let uts-value = c .uts-value in
-    hands-value 0 utsAnswer utsNumber utsValue uts-told _ _ (early-uts .ensures s (list-in p) (c .before .before .before .if1 .taken)) _ (uts-number .ensures) _ (uts-value .ensures)
+    λ s p.
+    hands-value 0 utsAnswer utsNumber utsValue uts-told _ _ (early-uts .ensures s (list-in p) (if1 .taken)) _ (uts-number .ensures) _ (uts-value .ensures)
 
 returns-2 : tie.Need-returns-2
 returns-2 c s p =
@@ -25,6 +27,8 @@ pub reply-uts-spec : {M : Type 1} → statement M
 reply-uts-spec =
     tie.close
     (tie.spec
+    (λ c. search needs)
+    (λ c. search needs)
     (λ c κs. search needs)
     (λ c κs. search needs)
     (λ c κs. search needs)
