@@ -8,25 +8,18 @@ ghost use Rattle.clock.specs.Question.{dtaiOn, utcToTai, taiToUtc, utcToUts, ut
 ghost use Rattle.many.specs.Many.{HandsMany, HandsManyUtc};
 ghost use Rattle.many.specs.Private.{question};
 
+mod loops; // loops.rt: arrays filled
 mod replies; // replies.rt: what an instant is replied
 mod stretches; // stretches.rt: the list prepared
 
+use crate::loops::clear;
+use crate::loops::fill;
+use crate::loops::fill_dtai;
+use crate::loops::fill_utc;
+use crate::loops::refuse;
+use crate::loops::refuse_dtai;
 use crate::replies::Asked;
-use crate::replies::clear;
-use crate::replies::refuse;
-use crate::replies::refuse_dtai;
-use crate::replies::reply_to;
-use crate::stretches::LAST;
-use crate::stretches::found;
 use crate::stretches::prepare;
-use clock::answers::dtai_number;
-use clock::answers::dtai_value;
-use clock::answers::utc_day;
-use clock::answers::utc_micros;
-use clock::answers::utc_number;
-use questions::by_day::dtai_on;
-use questions::by_day::near_day;
-use questions::by_day::utc_on;
 
 fn shorter(a: usize, b: usize) -> usize
     ensures { λ r. ⌜ r ≡ min a b ⌝ }
@@ -48,14 +41,7 @@ pub fn dtai(words: &[u32; 514], days: &[u64], numbers: &mut [u8], dtais: &mut [i
     }
     let mut prepared = [0u32; 1669];
     prepare(words, &mut prepared);
-    let mut i: usize = 0;
-    while i < n {
-        let day = days[i];
-        let a = dtai_on(found(&prepared, day), day);
-        numbers[i] = dtai_number(a);
-        dtais[i] = dtai_value(a);
-        i += 1;
-    }
+    fill_dtai(&prepared, days, numbers, dtais, n);
     n as u64
 }
 
@@ -80,13 +66,7 @@ fn answer(
     }
     let mut prepared = [0u32; 1669];
     prepare(words, &mut prepared);
-    let mut i: usize = 0;
-    while i < n {
-        let r = reply_to(asked, &prepared, days[i], times[i]);
-        numbers[i] = r.number;
-        values[i] = r.value;
-        i += 1;
-    }
+    fill(asked, &prepared, days, times, numbers, values, n);
     n as u64
 }
 
@@ -150,15 +130,6 @@ pub fn tai_to_utc(
     }
     let mut prepared = [0u32; 1669];
     prepare(words, &mut prepared);
-    let mut i: usize = 0;
-    while i < n {
-        let x = tais[i];
-        let near = near_day(x, prepared[LAST] as u64);
-        let a = utc_on(found(&prepared, near), near, x);
-        numbers[i] = utc_number(a);
-        days[i] = utc_day(a);
-        micros[i] = utc_micros(a);
-        i += 1;
-    }
+    fill_utc(&prepared, tais, numbers, days, micros, n);
     n as u64
 }

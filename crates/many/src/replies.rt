@@ -1,12 +1,8 @@
-// What an instant is replied under a prepared list, as a single question would be answered; and every instant under words that are no list.
-ghost use Prim.Native.Nat.{_≤_};
-ghost use lib.IntN.{pos};
-ghost use lib.ListN.{length, replicate};
+// What an instant is replied under a prepared list, as a single question would be answered.
 ghost use Rattle.schedule.specs.Schedule.{Schedule};
-ghost use Rattle.clock.specs.Question.{utcToTai, utcToUts, utsToUtc};
-ghost use Rattle.clock.specs.Answers.{HandsValue};
-ghost use Rattle.refusals.specs.Refusals.{notWellFormed};
-ghost use Rattle.many.specs.Private.{Prepared, Ready, Overwritten, question};
+ghost use Rattle.clock.specs.Question.{utcToTai, taiToUtc, utcToUts, utsToUtc};
+ghost use Rattle.clock.specs.Answers.{HandsValue, HandsUtc};
+ghost use Rattle.many.specs.Private.{Prepared, Ready, question};
 use crate::stretches::LAST;
 use crate::stretches::found;
 use clock::NANOS_CUTOFF;
@@ -15,14 +11,18 @@ use clock::answers::micros_number;
 use clock::answers::micros_value;
 use clock::answers::tai_number;
 use clock::answers::tai_value;
+use clock::answers::utc_day;
+use clock::answers::utc_micros;
+use clock::answers::utc_number;
 use clock::answers::uts_number;
 use clock::answers::uts_value;
 use questions::by_day::early_micros;
 use questions::by_day::early_uts;
 use questions::by_day::micros_on;
+use questions::by_day::near_day;
 use questions::by_day::tai_on;
+use questions::by_day::utc_on;
 use questions::by_day::uts_on;
-use refusals::NOT_WELL_FORMED;
 
 // An answer's number, and its value or 0.
 pub(crate) struct Reply {
@@ -30,11 +30,32 @@ pub(crate) struct Reply {
     pub(crate) value: u64,
 }
 
+// The same where the value is a UTC.
+pub(crate) struct UtcReply {
+    pub(crate) number: u8,
+    pub(crate) day: u64,
+    pub(crate) micros: u64,
+}
+
 // The three questions about a day and a time of it that are answered with one number.
 pub(crate) enum Asked {
     Tai,
     Uts,
     Micros,
+}
+
+// TAI to UTC.
+pub(crate) fn reply_utc(prepared: &[u32; 1669], tai: u64) -> UtcReply
+    requires { ⌜ Ready (now prepared) ⌝ }
+    ensures { λ r. ⌜ ((s : Schedule) → Prepared s (now (prepared .entry)) → HandsUtc (taiToUtc s tai) (r .number) (r .day) (r .micros)) ⌝ }
+{
+    let near = near_day(tai, prepared[LAST] as u64);
+    let a = utc_on(found(prepared, near), near, tai);
+    UtcReply {
+        number: utc_number(a),
+        day: utc_day(a),
+        micros: utc_micros(a),
+    }
 }
 
 // UTC to TAI.
@@ -96,43 +117,5 @@ pub(crate) fn reply_to(asked: Asked, prepared: &[u32; 1669], day: u64, time: u64
         Asked::Tai => reply_tai(prepared, day, time),
         Asked::Uts => reply_uts(prepared, day, time),
         Asked::Micros => reply_micros(prepared, day, time),
-    }
-}
-
-// The first n numbers and values, under words that are no list.
-pub(crate) fn refuse(numbers: &mut [u8], values: &mut [u64], n: usize)
-    requires { ⌜ (n ≤ length (now numbers)) × (n ≤ length (now values)) ⌝ }
-    ensures { λ _. ⌜ Overwritten (replicate n notWellFormed) (now (numbers .entry)) (now (numbers .exit)) × Overwritten (replicate n 0) (now (values .entry)) (now (values .exit)) ⌝ }
-{
-    let mut i: usize = 0;
-    while i < n {
-        numbers[i] = NOT_WELL_FORMED;
-        values[i] = 0;
-        i += 1;
-    }
-}
-
-// The same where the values are DTAI.
-pub(crate) fn refuse_dtai(numbers: &mut [u8], values: &mut [i32], n: usize)
-    requires { ⌜ (n ≤ length (now numbers)) × (n ≤ length (now values)) ⌝ }
-    ensures { λ _. ⌜ Overwritten (replicate n notWellFormed) (now (numbers .entry)) (now (numbers .exit)) × Overwritten (replicate n (pos 0)) (now (values .entry)) (now (values .exit)) ⌝ }
-{
-    let mut i: usize = 0;
-    while i < n {
-        numbers[i] = NOT_WELL_FORMED;
-        values[i] = 0;
-        i += 1;
-    }
-}
-
-// The first n values more.
-pub(crate) fn clear(values: &mut [u64], n: usize)
-    requires { ⌜ n ≤ length (now values) ⌝ }
-    ensures { λ _. ⌜ Overwritten (replicate n 0) (now (values .entry)) (now (values .exit)) ⌝ }
-{
-    let mut i: usize = 0;
-    while i < n {
-        values[i] = 0;
-        i += 1;
     }
 }

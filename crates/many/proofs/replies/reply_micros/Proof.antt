@@ -7,12 +7,11 @@ use Rattle.many.proofs.replies.reply_micros.Statement.{statement}
 use Rattle.many.proofs.replies.reply_micros.Tie as tie
 
 returns : tie.Need-returns
-returns c =
+returns c s p =
     let early-micros = c .before .before .early-micros in
     let if1 = c .before .before .before .before .if1 in
     let micros-number = c .before .micros-number in
     let micros-value = c .micros-value in
-    λ s p.
     hands-value 0 microsAnswer microsNumber microsValue micros-told _ _ (early-micros .ensures s (list-in p) (if1 .taken)) _ (micros-number .ensures) _ (micros-value .ensures)
 
 returns-2 : tie.Need-returns-2

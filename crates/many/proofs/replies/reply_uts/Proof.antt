@@ -7,12 +7,11 @@ use Rattle.many.proofs.replies.reply_uts.Statement.{statement}
 use Rattle.many.proofs.replies.reply_uts.Tie as tie
 
 returns : tie.Need-returns
-returns c =
+returns c s p =
     let early-uts = c .before .before .early-uts in
     let if1 = c .before .before .before .before .if1 in
     let uts-number = c .before .uts-number in
     let uts-value = c .uts-value in
-    λ s p.
     hands-value 0 utsAnswer utsNumber utsValue uts-told _ _ (early-uts .ensures s (list-in p) (if1 .taken)) _ (uts-number .ensures) _ (uts-value .ensures)
 
 returns-2 : tie.Need-returns-2

@@ -108,12 +108,11 @@ cast-t24 c =
     let r = walk .ensures .room in omega (arith, pre .small .tallies (516 + walk .result) (omega arith) (omega arith))
 
 returns : tie.Need-returns
-returns c =
+returns c s p =
     let smaller = c .before .before .before .before .before .before .smaller in
     let pre = c .before .before .before .before .before .before .before .before .pre in
     let walk = c .before .before .before .walk in
     let ending-in = c .before .before .ending-in in
-    λ s p.
     let e = smaller .ensures in
     let d : smaller .result < endDay = omega (arith, pre .inside) in
     day-for-near (p .is-last) (rw e at (day-in-stretch p d (walk .ensures) _ refl refl refl (ending-in .ensures s p) refl))

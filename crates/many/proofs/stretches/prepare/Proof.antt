@@ -6,24 +6,22 @@ use Rattle.many.proofs.stretches.prepare.Statement.{statement}
 use Rattle.many.proofs.stretches.prepare.Tie as tie
 
 lay-starts-requires : tie.Need-lay-starts-requires
-lay-starts-requires c =
+lay-starts-requires c κs =
     let pre = c .before .before .before .before .before .pre in
     let lay-far = c .before .lay-far in
     let expiry-of = c .before .before .before .before .expiry-of in
     let day-before = c .before .before .before .day-before in
-    λ κs.
     let w = pre .0 in
     let f = lay-far .ensures in
     (w, f .0 .size ∙ dated-size _ w (expiry-of .ensures) (day-before .ensures) _ (pre .1) (pre .2), f .1)
 
 lay-tallies-requires : tie.Need-lay-tallies-requires
-lay-tallies-requires c =
+lay-tallies-requires c κs =
     let pre = c .before .before .before .before .before .before .before .pre in
     let lay-far = c .before .before .before .lay-far in
     let lay-starts = c .before .lay-starts in
     let expiry-of = c .before .before .before .before .before .before .expiry-of in
     let day-before = c .before .before .before .before .before .day-before in
-    λ κs.
     let w = pre .0 in
     let f = lay-far .ensures in
     let g = lay-starts .ensures in
@@ -32,14 +30,13 @@ lay-tallies-requires c =
     (w, starts-size _ w x l _ (pre .1) (pre .2) f g, tallies-clear _ w x l _ (pre .1) (pre .2) f g)
 
 lay-guesses-requires : tie.Need-lay-guesses-requires
-lay-guesses-requires c =
+lay-guesses-requires c κs =
     let pre = c .before .before .before .before .before .before .before .before .before .pre in
     let lay-far = c .before .before .before .before .before .lay-far in
     let lay-starts = c .before .before .before .lay-starts in
     let lay-tallies = c .before .lay-tallies in
     let expiry-of = c .before .before .before .before .before .before .before .before .expiry-of in
     let day-before = c .before .before .before .before .before .before .before .day-before in
-    λ κs.
     let w = pre .0 in
     let f = lay-far .ensures in
     let g = lay-starts .ensures in

@@ -1,10 +1,10 @@
--- `many::replies::clear` meets its contract. Assumes nothing.
+-- `many::loops::clear` meets its contract. Assumes nothing.
 use Prim.Native.Nat.{_-_}
 use native.Mathlib.Omega.{arith}
 use borrow.Author.Needs.{needs}
 use Rattle.many.proofs.Answering.{Repeating, repeated-none, repeated-one, repeated-all}
-use Rattle.many.proofs.replies.clear.Statement.{statement}
-use Rattle.many.proofs.replies.clear.Tie as tie
+use Rattle.many.proofs.loops.clear.Statement.{statement}
+use Rattle.many.proofs.loops.clear.Tie as tie
 
 abbrev Inv-loop : tie.InvT-loop
 Inv-loop values₀ n i₀ values i = Repeating 0 n values₀ values i
