@@ -4,7 +4,7 @@
 use mathlib.Core.Bool.{true}
 use mathlib.Core.List.{List}
 use mathlib.Core.Path.{_≡_}
-use Prim.Native.Nat.{ℕ, _+_, _*_, _≤_, _<_}
+use Prim.Native.Nat.{ℕ, _+_, _*_, _≤_, _<_, min}
 use lib.ListN.{length, getD, take}
 use Rattle.calendar.specs.Calendar.{endDay, monthStart}
 use Rattle.schedule.specs.declared.Sign.{Sign}
@@ -101,6 +101,14 @@ pub record Empty (prepared : List ℕ) : Type 0 where
   pub none : (i : ℕ) → i ≤ 256 → startAt prepared (i + 1) ≡ far
 
 -- ---- questions and arrays filled
+
+-- the shortest of four lengths, which is none above any of them
+pub record Shortest (a b c d r : ℕ) : Type 0 where
+  pub is : r ≡ min (min a b) (min c d)
+  pub first : r ≤ a
+  pub second : r ≤ b
+  pub third : r ≤ c
+  pub fourth : r ≤ d
 
 -- the question that is asked
 abbrev pub question : Asked → Schedule → ℕ → ℕ → Answer ℕ

@@ -6,18 +6,18 @@ ghost use lib.IntN.{pos};
 ghost use Rattle.schedule.specs.WordLayout.{meant};
 ghost use Rattle.clock.specs.Question.{dtaiOn, utcToTai, taiToUtc, utcToUts, utsToUtc};
 ghost use Rattle.many.specs.Many.{HandsMany, HandsManyUtc};
-ghost use Rattle.many.specs.Private.{question};
+ghost use Rattle.many.specs.Private.{Shortest, question};
 
 mod loops; // loops.rt: arrays filled
 mod replies; // replies.rt: what an instant is replied
 mod stretches; // stretches.rt: the list prepared
 
-use crate::loops::clear;
 use crate::loops::fill;
 use crate::loops::fill_dtai;
 use crate::loops::fill_utc;
 use crate::loops::refuse;
 use crate::loops::refuse_dtai;
+use crate::loops::refuse_utc;
 use crate::replies::Asked;
 use crate::stretches::prepare;
 
@@ -28,6 +28,13 @@ fn shorter(a: usize, b: usize) -> usize
         return a;
     }
     b
+}
+
+// The shortest of four lengths.
+fn shortest(a: usize, b: usize, c: usize, d: usize) -> usize
+    ensures { λ r. ⌜ Shortest a b c d r ⌝ }
+{
+    shorter(shorter(a, b), shorter(c, d))
 }
 
 // DTAI for each date.
@@ -56,10 +63,7 @@ fn answer(
 ) -> u64
     ensures { λ n. ⌜ HandsMany 0 (zipWith (question asked (meant (now (words .entry)))) (now (days .entry)) (now (times .entry))) (now (numbers .entry)) (now (values .entry)) n (now (numbers .exit)) (now (values .exit)) ⌝ }
 {
-    let n = shorter(
-        shorter(days.len(), times.len()),
-        shorter(numbers.len(), values.len()),
-    );
+    let n = shortest(days.len(), times.len(), numbers.len(), values.len());
     if !schedule::is_list(words) {
         refuse(numbers, values, n);
         return n as u64;
@@ -119,13 +123,9 @@ pub fn tai_to_utc(
 ) -> u64
     ensures { λ n. ⌜ HandsManyUtc (map (taiToUtc (meant (now (words .entry)))) (now (tais .entry))) (now (numbers .entry)) (now (days .entry)) (now (micros .entry)) n (now (numbers .exit)) (now (days .exit)) (now (micros .exit)) ⌝ }
 {
-    let n = shorter(
-        shorter(tais.len(), numbers.len()),
-        shorter(days.len(), micros.len()),
-    );
+    let n = shortest(tais.len(), numbers.len(), days.len(), micros.len());
     if !schedule::is_list(words) {
-        refuse(numbers, days, n);
-        clear(micros, n);
+        refuse_utc(numbers, days, micros, n);
         return n as u64;
     }
     let mut prepared = [0u32; 1669];

@@ -109,14 +109,16 @@ pub(crate) fn refuse_dtai(numbers: &mut [u8], values: &mut [i32], n: usize)
     }
 }
 
-// The first n values more.
-pub(crate) fn clear(values: &mut [u64], n: usize)
-    requires { ⌜ n ≤ length (now values) ⌝ }
-    ensures { λ _. ⌜ Overwritten (replicate n 0) (now (values .entry)) (now (values .exit)) ⌝ }
+// The same where they are UTC.
+pub(crate) fn refuse_utc(numbers: &mut [u8], days: &mut [u64], micros: &mut [u64], n: usize)
+    requires { ⌜ (n ≤ length (now numbers)) × (n ≤ length (now days)) × (n ≤ length (now micros)) ⌝ }
+    ensures { λ _. ⌜ Overwritten (replicate n notWellFormed) (now (numbers .entry)) (now (numbers .exit)) × Overwritten (replicate n 0) (now (days .entry)) (now (days .exit)) × Overwritten (replicate n 0) (now (micros .entry)) (now (micros .exit)) ⌝ }
 {
     let mut i: usize = 0;
     while i < n {
-        values[i] = 0;
+        numbers[i] = NOT_WELL_FORMED;
+        days[i] = 0;
+        micros[i] = 0;
         i += 1;
     }
 }

@@ -11,11 +11,17 @@ use Rattle.many.proofs.answer.Tie as tie
 -- words that are no list
 returns : tie.Need-returns
 returns c =
-    let args = c .before .before .before .before .before .before .before .before .before .before .before .before .before .before .before .before .args in
+    let shortest = c .before .before .before .before .before .before .before .before .before .shortest in
+    let args = c .before .before .before .before .before .before .before .before .before .before .before .before .before .before .args in
     let is-list = c .before .before .before .before .before .before .before .before .is-list in
     let if1 = c .before .before .before .before .before .before .before .if1 in
     let refuse = c .before .before .before .before .refuse in
-    refuses-two _ _ _ (omega arith) (none-asked (args .asked) (meant (args .words .now)) (failed (is-list .ensures) (if1 .taken))) (refuse .ensures .0) (refuse .ensures .1)
+    refuses-two _ _ _ (shortest .ensures .is) (none-asked (args .asked) (meant (args .words .now)) (failed (is-list .ensures) (if1 .taken))) (refuse .ensures .0) (refuse .ensures .1)
+
+refuse-requires : tie.Need-refuse-requires
+refuse-requires c κs =
+    let shortest = c .before .before .before .before .shortest in
+    (shortest .ensures .third, shortest .ensures .fourth)
 
 prepare-requires : tie.Need-prepare-requires
 prepare-requires c κs =
@@ -26,13 +32,15 @@ prepare-requires c κs =
 fill-requires : tie.Need-fill-requires
 fill-requires c κs =
     let prepare = c .before .before .before .prepare in
-    (prepare .ensures .0, omega arith, omega arith, omega arith, omega arith)
+    let shortest = c .before .before .before .before .before .before .before .shortest in
+    (prepare .ensures .0, shortest .ensures .first, shortest .ensures .second, shortest .ensures .third, shortest .ensures .fourth)
 
 returns-2 : tie.Need-returns-2
 returns-2 c =
+    let shortest = c .before .before .before .before .before .before .before .before .before .before .before .before .shortest in
     let fill = c .before .before .before .before .fill in
     let prepare = c .before .before .before .before .before .before .before .before .prepare in
-    hands-two _ _ _ (omega arith) (fill .ensures _ (prepare .ensures .1))
+    hands-two _ _ _ (shortest .ensures .is) (fill .ensures _ (prepare .ensures .1))
 
 pub answer-spec : {M : Type 1} → statement M
 answer-spec =
@@ -40,9 +48,7 @@ answer-spec =
     (tie.spec
     (λ c κs. search needs)
     (λ c κs. search needs)
-    (λ c κs. search needs)
-    (λ c κs. search needs)
-    (λ c κs. (omega arith, omega arith))
+    refuse-requires
     (λ c. search needs)
     (λ c. search needs)
     returns
