@@ -7,10 +7,7 @@ use Prim.Native.Nat.{ℕ, zero, suc, _+_, _≤_, _<_, min}
 use native.Mathlib.Nat.{not-suc-le-zero, le-of-suc-le-suc}
 use native.Mathlib.Omega.{arith}
 use lib.ListN.{length, getD, take, set, replicate, length-map, length-set, length-replicate, replicate-append-replicate}
-use Rattle.calendar.specs.Calendar.{endDay}
-use Rattle.schedule.specs.declared.Sign.the-variants.{Positive, Negative}
 use Rattle.schedule.specs.Schedule.{Schedule, wellFormed}
-use Rattle.schedule.specs.WordLayout.{expiryWord, meant}
 use Rattle.refusals.specs.Refusals.{notWellFormed}
 use Rattle.clock.proofs.Checks.{stop}
 use Rattle.clock.specs.Question.{Answer, refused, Utc, number, orZero}

@@ -1,5 +1,4 @@
 -- `many::answer` meets its contract. Assumes nothing.
-use native.Mathlib.Omega.{arith}
 use borrow.Author.Needs.{needs}
 use Rattle.schedule.specs.WordLayout.{meant}
 use Rattle.many.proofs.Answering.{hands-two, refuses-two, none-asked}

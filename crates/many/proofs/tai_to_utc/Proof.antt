@@ -1,5 +1,4 @@
 -- `many::tai_to_utc` meets its contract. Assumes nothing.
-use native.Mathlib.Omega.{arith}
 use borrow.Author.Needs.{needs}
 use Rattle.refusals.specs.Refusals.{notWellFormed}
 use Rattle.schedule.specs.WordLayout.{meant}

@@ -2,7 +2,6 @@
 use mathlib.Core.List.{zipWith}
 use Prim.Native.Nat.{_-_, _≤_, _<_}
 use native.Mathlib.Omega.{arith}
-use lib.ListN.{length}
 use borrow.Author.Needs.{needs}
 use Rattle.clock.specs.Question.{number, orZero}
 use Rattle.many.specs.Private.{question}

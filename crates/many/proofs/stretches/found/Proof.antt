@@ -8,32 +8,6 @@ use Rattle.many.proofs.Stretched.{day-in-stretch, day-for-near}
 use Rattle.many.proofs.stretches.found.Statement.{statement}
 use Rattle.many.proofs.stretches.found.Tie as tie
 
-cast-near : tie.Need-cast-near
-cast-near c =
-    let smaller = c .smaller in
-    let pre = c .before .before .pre in
-    omega (arith, smaller .ensures, pre .inside)
-
-add-guess : tie.Need-add-guess
-add-guess c =
-    let smaller = c .smaller in
-    let pre = c .before .before .pre in
-    omega (arith, smaller .ensures, pre .inside)
-
-mul-guess : tie.Need-mul-guess
-mul-guess c =
-    let smaller = c .smaller in
-    let pre = c .before .before .pre in
-    omega (arith, smaller .ensures, pre .inside)
-
-element-copy-out-guess : tie.Need-element-copy-out-guess
-element-copy-out-guess c =
-    let smaller = c .smaller in
-    let pre = c .before .before .pre in
-    let e = smaller .ensures in
-    let l = pre .inside in
-    search needs
-
 cast-step : tie.Need-cast-step
 cast-step c =
     let pre = c .before .before .before .pre in
@@ -63,43 +37,11 @@ ending-in-requires c κs =
     let pre = c .before .before .before .before .before .pre in
     (walk .ensures, omega (arith, smaller .ensures, pre .inside))
 
-add-t14 : tie.Need-add-t14
-add-t14 c =
-    let walk = c .before .walk in
-    omega (arith, walk .ensures .room)
-
-mul-t13 : tie.Need-mul-t13
-mul-t13 c =
-    let walk = c .before .walk in
-    omega (arith, walk .ensures .room)
-
-element-copy-out-t10 : tie.Need-element-copy-out-t10
-element-copy-out-t10 c =
-    let walk = c .before .walk in
-    let r = walk .ensures .room in
-    search needs
-
 cast-t20 : tie.Need-cast-t20
 cast-t20 c =
     let walk = c .before .before .walk in
     let pre = c .before .before .before .before .before .before .before .pre in
     let r = walk .ensures .room in omega (arith, pre .small .tallies (258 + walk .result) (omega arith) (omega arith))
-
-add-t12 : tie.Need-add-t12
-add-t12 c =
-    let walk = c .before .before .walk in
-    omega (arith, walk .ensures .room)
-
-mul-t21 : tie.Need-mul-t21
-mul-t21 c =
-    let walk = c .before .before .walk in
-    omega (arith, walk .ensures .room)
-
-element-copy-out-t17 : tie.Need-element-copy-out-t17
-element-copy-out-t17 c =
-    let walk = c .before .before .walk in
-    let r = walk .ensures .room in
-    search needs
 
 cast-t24 : tie.Need-cast-t24
 cast-t24 c =
@@ -124,21 +66,21 @@ found-spec =
     (λ c. search needs)
     (λ c. search needs)
     (λ c κs. search needs)
-    cast-near
+    (λ c. omega arith)
     (λ c. search needs)
-    add-guess
-    mul-guess
-    element-copy-out-guess
+    (λ c. omega arith)
+    (λ c. omega arith)
+    (λ c. omega arith)
     cast-step
     step-requires
     walk-requires
     ending-in-requires
-    add-t14
-    mul-t13
-    element-copy-out-t10
+    (λ c. omega arith)
+    (λ c. omega arith)
+    (λ c. omega arith)
     cast-t20
-    add-t12
-    mul-t21
-    element-copy-out-t17
+    (λ c. omega arith)
+    (λ c. omega arith)
+    (λ c. omega arith)
     cast-t24
     returns)

@@ -1,7 +1,6 @@
 -- `many::stretches::lay_far` meets its contract. Assumes nothing.
 use Prim.Native.Nat.{_-_}
 use native.Mathlib.Omega.{arith}
-use borrow.Author.Needs.{needs}
 use Rattle.many.proofs.Preparing.{Emptying, emptying-none, emptying-one, emptying-all}
 use Rattle.many.proofs.stretches.lay_far.Statement.{statement}
 use Rattle.many.proofs.stretches.lay_far.Tie as tie

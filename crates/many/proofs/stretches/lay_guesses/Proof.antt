@@ -1,9 +1,7 @@
 -- `many::stretches::lay_guesses` meets its contract. Assumes nothing.
-use mathlib.Core.Path.{_≡_}
-use Prim.Native.Nat.{_+_, _-_, _*_, _/_, _≤_, _<_}
+use Prim.Native.Nat.{_+_, _-_, _<_}
 use native.Mathlib.Omega.{arith}
 use borrow.Author.Needs.{needs}
-use Rattle.many.specs.Private.{lastOf}
 use Rattle.many.proofs.Preparing.{Guessing, guessing-none, guessing-one}
 use Rattle.many.proofs.stretches.lay_guesses.Statement.{statement}
 use Rattle.many.proofs.stretches.lay_guesses.Tie as tie
@@ -26,12 +24,6 @@ walk-requires c κs =
     let loop-test = c .before .loop-test in
     (loop .inv .1 .room, omega (arith, loop .inv .1 .begun), omega (arith, loop .inv .1 .within .below 257 (omega arith), pre .1 .end, loop-test .taken, loop .inv .0))
 
-cast-prepared : tie.Need-cast-prepared Inv-loop μ-loop
-cast-prepared c =
-    let walk = c .walk in
-    let r = walk .ensures .room in
-    search needs
-
 loop-again : tie.Need-loop-again Inv-loop μ-loop
 loop-again c =
     let loop = c .before .before .before .loop in
@@ -51,7 +43,7 @@ lay-guesses-spec =
     (λ c. omega arith)
     (λ c. omega arith)
     walk-requires
-    cast-prepared
+    (λ c. omega arith)
     (λ c. omega arith)
     (λ c. omega arith)
     (λ c. omega arith)

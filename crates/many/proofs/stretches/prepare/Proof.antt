@@ -1,7 +1,7 @@
 -- `many::stretches::prepare` meets its contract. Assumes nothing.
 use mathlib.Core.Path.{_∙_}
 use borrow.Author.Needs.{needs}
-use Rattle.many.proofs.Preparing.{dated-size, far-size, starts-size, tallies-clear, tallies-size, tallies-fenced, last-inside, guesses-clear, list-prepared}
+use Rattle.many.proofs.Preparing.{dated-size, starts-size, tallies-clear, tallies-size, tallies-fenced, last-inside, guesses-clear, list-prepared}
 use Rattle.many.proofs.stretches.prepare.Statement.{statement}
 use Rattle.many.proofs.stretches.prepare.Tie as tie
 
