@@ -18,10 +18,10 @@ use Rattle.schedule.proofs.Cases.{by-bool}
 use Rattle.schedule.proofs.Gaps.{parts}
 use Rattle.clock.specs.Days.{longDay, shortDay, dtai, endingBefore, ending, dayLength, tai}
 use Rattle.clock.specs.Smoothed.{nanosPerDay, uts, utcOf}
-use Rattle.clock.specs.Known.{lastDay, fullyKnown, taiCutoff, utsCutoff, nanosCutoff, known, knownDate, taiEnd, knownTai}
+use Rattle.clock.specs.Known.{lastDay, fullyKnown, taiCutoff, utsCutoff, nanosCutoff, knownTo, knownDate, taiEnd, knownTai}
 use Rattle.clock.specs.Question.{Answer, given, refused, require, firstTai, atInstant, atUtc, dtaiOn, utcToTai, dayOf, taiToUtc, utcToUts, utsToUtc, Question, DTAI, UTC-to-TAI, TAI-to-UTC, UTC-to-UTS, UTS-to-UTC, ask}
 use Rattle.clock.specs.Lists.{Open, Kept}
-use Rattle.clock.specs.Tally.{tally}
+use Rattle.clock.proofs.Tally.{tally}
 use Rattle.clock.proofs.Tallied.{dtai-tallied}
 use Rattle.clock.proofs.Leaps.{tally-below, ending-below, ending-known}
 use Rattle.clock.proofs.Tai.{length-least, expires-later, ending-last}
@@ -103,23 +103,23 @@ module _ (L S : Schedule) (longer : Extends L S) (wL : wellFormed L ≡ true) (w
   later-dtai day =
       later-pass (wellFormed S) (wellFormed L) notWellFormed wS wL
       (later-check (leb firstDay day) before1972 λ _.
-      later-known (knownDate S day) (knownDate L day) (given-open (dtai L day)) λ e.
+      later-known (knownDate (lastDay S) day) (knownDate (lastDay L) day) (given-open (dtai L day)) λ e.
       let h = leb-true day (lastDay S) e in
       (le-leb day (lastDay L) (omega (arith, last-later)), ap given (dtai-same day h)))
 
   -- the checks of an instant, and what comes after them
   later-instant : {A : Type 0} (limit cutoff day t : ℕ) {a a′ : Answer A} → Open a′ → (Sure (lastDay S) cutoff day t → a′ ≡ a)
-      → Later (atInstant S limit cutoff day t a) (atInstant L limit cutoff day t a′)
+      → Later (atInstant (wellFormed S) (lastDay S) limit cutoff day t a) (atInstant (wellFormed L) (lastDay L) limit cutoff day t a′)
   later-instant limit cutoff day t o f =
       later-pass (wellFormed S) (wellFormed L) notWellFormed wS wL
       (later-check (leb firstDay day) before1972 λ _.
       later-check (ltb t limit) noInstant λ _.
-      later-known (known S cutoff day t) (known L cutoff day t) o λ e.
+      later-known (knownTo (lastDay S) cutoff day t) (knownTo (lastDay L) cutoff day t) o λ e.
       let sure = known-sure (lastDay S) cutoff day t e in
       (sure-known (sure-longer last-later sure), f sure))
 
   later-utc : {A : Type 0} (cutoff day t : ℕ) (v v′ : A) → cutoff ≤ shortDay → (day < wholeTo (lastDay S) → v′ ≡ v) → (day ≤ lastDay S → t < cutoff → v′ ≡ v)
-      → Later (atUtc S cutoff day t v) (atUtc L cutoff day t v′)
+      → Later (atUtc (wellFormed S) (lastDay S) (ending S day) cutoff day t v) (atUtc (wellFormed L) (lastDay L) (ending L day) cutoff day t v′)
   later-utc cutoff day t v v′ small before on-last =
       later-instant longDay cutoff day t (instant-open (ltb t (dayLength (ending L day))) v′)
       (⊎-elim (λ (h : day < wholeTo (lastDay S)). rw (ending-same day h, before h))

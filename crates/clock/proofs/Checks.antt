@@ -14,7 +14,7 @@ use Rattle.schedule.specs.Schedule.{Schedule, wellFormed}
 use Rattle.schedule.proofs.Cases.{by-bool}
 use Rattle.clock.specs.Days.{longDay, ending, dayLength}
 use Rattle.clock.specs.Smoothed.{nanosPerDay}
-use Rattle.clock.specs.Known.{lastDay, fullyKnown, nanosCutoff, knownTo, known, knownDate}
+use Rattle.clock.specs.Known.{lastDay, fullyKnown, nanosCutoff, knownTo, knownDate}
 use Rattle.clock.specs.Question.{Answer, given, refused, require, number, atDate, atInstant, atUtc, atUts}
 use Rattle.clock.specs.Taken.{Within}
 use Rattle.clock.proofs.Tai.{length-most}
@@ -152,11 +152,11 @@ pub record OnDate {A : Type 0} (s : Schedule) (day : ℕ) (v x : A) : Type 0 whe
   pub through : day ≤ lastDay s
   pub is : v ≡ x
 
-pub on-date : {A : Type 0} (s : Schedule) (day : ℕ) (v x : A) → atDate s day v ≡ given x → OnDate s day v x
+pub on-date : {A : Type 0} (s : Schedule) (day : ℕ) (v x : A) → atDate (wellFormed s) (lastDay s) day v ≡ given x → OnDate s day v x
 on-date s day v x h =
     let a = required (wellFormed s) notWellFormed h in
     let b = required (leb firstDay day) before1972 (a .1) in
-    let c = required (knownDate s day) notKnown (b .1) in
+    let c = required (knownDate (lastDay s) day) notKnown (b .1) in
     record { well = a .0; from = leb-true firstDay day (b .0); through = leb-true day (lastDay s) (c .0); is = given-is (c .1) }
 
 -- what holds when an instant passes the checks that UTC and UTS share, and that it does then
@@ -166,18 +166,18 @@ pub record OnInstant (s : Schedule) (limit cutoff day t : ℕ) : Type 0 where
   pub below : t < limit
   pub sure : Sure (lastDay s) cutoff day t
 
-pub on-instant : {A : Type 0} {a : Answer A} {x : A} (s : Schedule) (limit cutoff day t : ℕ) → atInstant s limit cutoff day t a ≡ given x
+pub on-instant : {A : Type 0} {a : Answer A} {x : A} (s : Schedule) (limit cutoff day t : ℕ) → atInstant (wellFormed s) (lastDay s) limit cutoff day t a ≡ given x
     → OnInstant s limit cutoff day t × (a ≡ given x)
 on-instant s limit cutoff day t h =
     let p = required (wellFormed s) notWellFormed h in
     let q = required (leb firstDay day) before1972 (p .1) in
     let u = required (ltb t limit) noInstant (q .1) in
-    let v = required (known s cutoff day t) notKnown (u .1) in (
+    let v = required (knownTo (lastDay s) cutoff day t) notKnown (u .1) in (
       record { well = p .0; from = leb-true firstDay day (q .0); below = ltb-true t limit (u .0); sure = known-sure (lastDay s) cutoff day t (v .0) },
       v .1,
     )
 
-pub instant-passed : {A : Type 0} {a : Answer A} (s : Schedule) (limit cutoff day t : ℕ) → OnInstant s limit cutoff day t → atInstant s limit cutoff day t a ≡ a
+pub instant-passed : {A : Type 0} {a : Answer A} (s : Schedule) (limit cutoff day t : ℕ) → OnInstant s limit cutoff day t → atInstant (wellFormed s) (lastDay s) limit cutoff day t a ≡ a
 instant-passed s limit cutoff day t on =
     pass notWellFormed (on .well)
     ∙ pass before1972 (le-leb firstDay day (on .from))
@@ -192,20 +192,20 @@ pub record OnUtc {A : Type 0} (s : Schedule) (cutoff day t : ℕ) (v x : A) : Ty
   pub below : t < dayLength (ending s day)
   pub is : v ≡ x
 
-pub on-utc : {A : Type 0} (s : Schedule) (cutoff day t : ℕ) (v x : A) → atUtc s cutoff day t v ≡ given x → OnUtc s cutoff day t v x
+pub on-utc : {A : Type 0} (s : Schedule) (cutoff day t : ℕ) (v x : A) → atUtc (wellFormed s) (lastDay s) (ending s day) cutoff day t v ≡ given x → OnUtc s cutoff day t v x
 on-utc s cutoff day t v x h =
     let p = on-instant s longDay cutoff day t h in
     let q = required (ltb t (dayLength (ending s day))) noInstant (p .1) in
     record { well = p .0 .well; from = p .0 .from; sure = p .0 .sure; below = ltb-true t (dayLength (ending s day)) (q .0); is = given-is (q .1) }
 
 pub utc-answered : {A : Type 0} (s : Schedule) (cutoff day t : ℕ) (v : A) → wellFormed s ≡ true → firstDay ≤ day → Sure (lastDay s) cutoff day t
-    → t < dayLength (ending s day) → atUtc s cutoff day t v ≡ given v
+    → t < dayLength (ending s day) → atUtc (wellFormed s) (lastDay s) (ending s day) cutoff day t v ≡ given v
 utc-answered s cutoff day t v w from sure below =
     instant-passed s longDay cutoff day t (record { well = w; from = from; below = omega (arith, length-most (ending s day)); sure = sure })
     ∙ pass noInstant (lt-ltb t (dayLength (ending s day)) below)
 
 -- what holds when an instant of UTS is answered
-pub on-uts : {A : Type 0} (s : Schedule) (day u : ℕ) (v x : A) → atUts s day u v ≡ given x → OnInstant s nanosPerDay nanosCutoff day u × (v ≡ x)
+pub on-uts : {A : Type 0} (s : Schedule) (day u : ℕ) (v x : A) → atUts (wellFormed s) (lastDay s) day u v ≡ given x → OnInstant s nanosPerDay nanosCutoff day u × (v ≡ x)
 on-uts s day u v x h = let p = on-instant s nanosPerDay nanosCutoff day u h in (p .0, given-is (p .1))
 
 -- ---- the numbers
@@ -215,14 +215,14 @@ through true n a h g = g
 through false n a h g = h
 
 -- an instant of UTC is refused with at most 11
-pub utc-number : {A : Type 0} (s : Schedule) (cutoff day t : ℕ) (v : A) → number (atUtc s cutoff day t v) ≤ 11
+pub utc-number : {A : Type 0} (s : Schedule) (cutoff day t : ℕ) (v : A) → number (atUtc (wellFormed s) (lastDay s) (ending s day) cutoff day t v) ≤ 11
 utc-number {A} s cutoff day t v =
     let length-left : Answer A = require (ltb t (dayLength (ending s day))) noInstant (given v) in
-    let known-left : Answer A = require (known s cutoff day t) notKnown length-left in
+    let known-left : Answer A = require (knownTo (lastDay s) cutoff day t) notKnown length-left in
     let long-left : Answer A = require (ltb t longDay) noInstant known-left in
     let early-left : Answer A = require (leb firstDay day) before1972 long-left in
     through (wellFormed s) notWellFormed early-left (omega arith)
     (through (leb firstDay day) before1972 long-left (omega arith)
     (through (ltb t longDay) noInstant known-left (omega arith)
-    (through (known s cutoff day t) notKnown length-left (omega arith)
+    (through (knownTo (lastDay s) cutoff day t) notKnown length-left (omega arith)
     (through (ltb t (dayLength (ending s day))) noInstant (given v) (omega arith) (omega arith)))))

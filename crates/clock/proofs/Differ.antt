@@ -21,7 +21,7 @@ use Rattle.schedule.proofs.Gaps.{fits-lt, first, later, before-end, parts}
 use Rattle.schedule.proofs.Expired.{is-expired, not-expired}
 use Rattle.schedule.proofs.Extension.{below-none}
 use Rattle.clock.specs.Days.{firstDtai, dtai}
-use Rattle.clock.specs.Tally.{count, tally}
+use Rattle.clock.proofs.Tally.{count, tally}
 use Rattle.clock.proofs.Tallied.{dtai-tallied}
 use Rattle.clock.specs.Known.{lastDay}
 use Rattle.clock.specs.Question.{given, DTAI, ask}

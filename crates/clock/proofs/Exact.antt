@@ -18,7 +18,7 @@ use Rattle.clock.specs.Days.{microsPerDay, firstDtai, ending, dayLength,
 use Rattle.clock.specs.Smoothed.{smoothing, minus, uts}
 use Rattle.clock.specs.Known.{taiCutoff}
 use Rattle.clock.specs.Question.{given, utcToTai}
-use Rattle.clock.specs.Tally.{tally}
+use Rattle.clock.proofs.Tally.{tally}
 use Rattle.clock.proofs.Tallied.{plus-negative, plus-times, dtai-tallied, days-exact, tai-tallied}
 use Rattle.clock.proofs.Leaps.{part}
 use Rattle.clock.proofs.Tai.{length-least, deleted-few, tally-first, tally-after}

@@ -40,11 +40,11 @@ module _ (s : Schedule) (w : wellFormed s ≡ true) where
 
   -- ---- an instant of that day that is known, and one that isn't
 
-  answered : {A : Type 0} (cutoff t : ℕ) (v : A) → Sure (lastDay s) cutoff (s .expiry - 1) t → t < 86_400_000_000 → atUtc s cutoff (s .expiry - 1) t v ≡ given v
+  answered : {A : Type 0} (cutoff t : ℕ) (v : A) → Sure (lastDay s) cutoff (s .expiry - 1) t → t < 86_400_000_000 → atUtc (wellFormed s) (lastDay s) (ending s (s .expiry - 1)) cutoff (s .expiry - 1) t v ≡ given v
   answered cutoff t v sure h = utc-answered s cutoff (s .expiry - 1) t v w from-first sure (omega (arith, length-last))
 
   unknown : {A : Type 0} (limit cutoff t : ℕ) (a : Answer A) → fullyKnown (lastDay s) ≡ false → cutoff ≤ t → t < limit
-      → atInstant s limit cutoff (s .expiry - 1) t a ≡ refused 10
+      → atInstant (wellFormed s) (lastDay s) limit cutoff (s .expiry - 1) t a ≡ refused 10
   unknown limit cutoff t a k c h =
       pass notWellFormed w
       ∙ pass before1972 (le-leb firstDay (s .expiry - 1) from-first)
@@ -89,7 +89,7 @@ module _ (s : Schedule) (w : wellFormed s ≡ true) where
         ∙ ap given (rw (ending-last s w) (sym (back-ordinary u h)))
 
     -- from 86,400,000,000 on that day has no instant: 9, and not 10
-    beyond : {A : Type 0} (cutoff t : ℕ) (v : A) → 86_400_000_000 ≤ t → atUtc s cutoff (s .expiry - 1) t v ≡ refused 9
+    beyond : {A : Type 0} (cutoff t : ℕ) (v : A) → 86_400_000_000 ≤ t → atUtc (wellFormed s) (lastDay s) (ending s (s .expiry - 1)) cutoff (s .expiry - 1) t v ≡ refused 9
     beyond cutoff t v h =
         pass notWellFormed w
         ∙ pass before1972 (le-leb firstDay (s .expiry - 1) from-first)

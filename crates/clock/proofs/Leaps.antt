@@ -21,7 +21,7 @@ use Rattle.clock.specs.declared.Ending.{Ending}
 use Rattle.clock.specs.declared.Ending.the-variants.{Ordinary, Inserted, Deleted}
 use Rattle.clock.specs.Known.{fullyKnown}
 use Rattle.clock.specs.Days.{endingOf, endingBefore}
-use Rattle.clock.specs.Tally.{count, tally}
+use Rattle.clock.proofs.Tally.{count, tally}
 
 -- a leap that takes effect after the day is not counted
 pub not-yet : (sign : Sign) (l : Leap) (day : ℕ) → day < monthStart (l .month) → count (sameSign sign (l .sign) && leb (monthStart (l .month)) day) ≡ 0

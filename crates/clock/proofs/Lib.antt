@@ -1,4 +1,5 @@
 -- The laws of the clock. Those that the demands name stand last in their modules.
+pub mod Tally
 pub mod Tallied
 pub mod Leaps
 pub mod Placed

@@ -19,7 +19,7 @@ use Rattle.clock.specs.declared.Ending.the-variants.{Ordinary, Inserted,
 use Rattle.clock.specs.Days.{microsPerDay, longDay, shortDay, ending, dayLength, tai}
 use Rattle.clock.specs.Known.{lastDay}
 use Rattle.clock.specs.Question.{firstTai}
-use Rattle.clock.specs.Tally.{count, tally}
+use Rattle.clock.proofs.Tally.{count, tally}
 use Rattle.clock.proofs.Tallied.{tai-tallied}
 use Rattle.clock.proofs.Leaps.{ending-none, tally-none, tally-next, part}
 

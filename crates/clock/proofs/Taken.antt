@@ -20,7 +20,7 @@ use Rattle.clock.proofs.Checks.{known-after, sure-within, within-sure, 
 
 module _ (s : Schedule) (w : wellFormed s ≡ true) where
   utc-taken : {A : Type 0} (cutoff day t : ℕ) (v : A)
-      → ((firstDay ≤ day) × (t < dayLength (ending s day)) × Within (lastDay s) cutoff day t) ↔ ((x : A) × (atUtc s cutoff day t v ≡ given x))
+      → ((firstDay ≤ day) × (t < dayLength (ending s day)) × Within (lastDay s) cutoff day t) ↔ ((x : A) × (atUtc (wellFormed s) (lastDay s) (ending s day) cutoff day t v ≡ given x))
   utc-taken cutoff day t v = (
     λ h. (v, utc-answered s cutoff day t v w (h .0) (within-sure (h .2)) (h .1)),
     λ h. let k = on-utc s cutoff day t v (h .0) (h .1) in (k .from, k .below, sure-within (k .sure)),
@@ -51,7 +51,7 @@ module _ (s : Schedule) (w : wellFormed s ≡ true) where
   )
 
 module _ (s : Schedule) (w : wellFormed s ≡ true) (day : ℕ) (from : 41_317 ≤ day) where
-  none-there : {A : Type 0} (limit cutoff t : ℕ) (a : Answer A) → limit ≤ t → atInstant s limit cutoff day t a ≡ refused 9
+  none-there : {A : Type 0} (limit cutoff t : ℕ) (a : Answer A) → limit ≤ t → atInstant (wellFormed s) (lastDay s) limit cutoff day t a ≡ refused 9
   none-there limit cutoff t a h = pass notWellFormed w ∙ pass before1972 (le-leb firstDay day from) ∙ stop _ noInstant (le-ltb t limit h)
 
   -- from 86,401,000,000 of UTC on there is no such instant (9) on any day from 1972 on, whether that day is known or not
@@ -66,7 +66,7 @@ module _ (s : Schedule) (w : wellFormed s ≡ true) (day : ℕ) (from : 41_317 �
     after-last : lastDay s < day
     after-last = omega (arith, expires-later s w)
 
-    not-there : {A : Type 0} (limit cutoff t : ℕ) (a : Answer A) → t < limit → atInstant s limit cutoff day t a ≡ refused 10
+    not-there : {A : Type 0} (limit cutoff t : ℕ) (a : Answer A) → t < limit → atInstant (wellFormed s) (lastDay s) limit cutoff day t a ≡ refused 10
     not-there limit cutoff t a h =
         pass notWellFormed w
         ∙ pass before1972 (le-leb firstDay day from)

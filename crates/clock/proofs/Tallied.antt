@@ -15,8 +15,8 @@ use Rattle.schedule.specs.declared.Sign.{Sign}
 use Rattle.schedule.specs.declared.Sign.the-variants.{Positive, Negative}
 use Rattle.schedule.specs.Schedule.{Leap, Schedule}
 use Rattle.schedule.specs.Extends.{sameSign}
-use Rattle.clock.specs.Days.{microsPerSecond, microsPerDay, firstDtai, inEffect, secondOf, leapSeconds, dtai, natural, tai}
-use Rattle.clock.specs.Tally.{count, tally}
+use Rattle.clock.specs.Days.{microsPerSecond, microsPerDay, firstDtai, inEffect, secondOf, leapSeconds, dtai, natural, taiWith, tai}
+use Rattle.clock.proofs.Tally.{count, tally}
 
 -- ---- differences of two numbers
 
@@ -105,10 +105,19 @@ dtai-tallied s day =
 pub days-exact : (day t : ℕ) → firstDay ≤ day → pos microsPerDay *ℤ (pos day -ℤ pos firstDay) +ℤ pos t ≡ pos (microsPerDay * (day - firstDay) + t)
 days-exact day t i = rw (plus-negative day firstDay i)
 
+pub tai-by-dtai : (s : Schedule) (day t : ℕ) → tai s day t ≡ taiWith (dtai s day) day t
+unfolding tai
+tai-by-dtai s day t = refl
+
+-- where DTAI is a - b
+pub tai-minus : (a b day t : ℕ) → firstDay ≤ day → taiWith (subℕ a b) day t ≡ microsPerDay * (day - firstDay) + t + microsPerSecond * a - microsPerSecond * b
+unfolding taiWith
+tai-minus a b day t i = rw (days-exact day t i) (times-cut (microsPerDay * (day - firstDay) + t) a b)
+
 pub tai-tallied : (s : Schedule) (day t : ℕ) → firstDay ≤ day
     → tai s day t
     ≡ microsPerDay * (day - firstDay) + t + microsPerSecond * (firstDtai + tally Positive (s .leaps) day) - microsPerSecond * tally Negative (s .leaps) day
-unfolding tai
 tai-tallied s day t i =
-    rw (days-exact day t i, dtai-tallied s day)
-    (times-cut (microsPerDay * (day - firstDay) + t) (firstDtai + tally Positive (s .leaps) day) (tally Negative (s .leaps) day))
+    tai-by-dtai s day t
+    ∙ ap (λ d. taiWith d day t) (dtai-tallied s day)
+    ∙ tai-minus (firstDtai + tally Positive (s .leaps) day) (tally Negative (s .leaps) day) day t i

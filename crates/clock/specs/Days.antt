@@ -75,7 +75,10 @@ abbrev pub natural : ℤ → ℕ
 natural (pos n) = n
 natural (negsuc n) = 0
 
--- TAI, microseconds from 1972-01-01 00:00:00 TAI: 86,400,000,000 x (MJD - 41317) + UTC microseconds + 1,000,000 x DTAI.
+-- TAI, microseconds from 1972-01-01 00:00:00 TAI, where DTAI is d: 86,400,000,000 x (MJD - 41317) + UTC microseconds + 1,000,000 x DTAI
+unfoldable pub taiWith : ℤ → ℕ → ℕ → ℕ
+taiWith d day t = natural (pos microsPerDay *ℤ (pos day -ℤ pos firstDay) +ℤ pos t +ℤ pos microsPerSecond *ℤ d)
+
 -- From MJD 41317 on under a well-formed schedule it is that integer itself: none is below zero (`tai-exact`).
 unfoldable pub tai : Schedule → ℕ → ℕ → ℕ
-tai s day t = natural (pos microsPerDay *ℤ (pos day -ℤ pos firstDay) +ℤ pos t +ℤ pos microsPerSecond *ℤ dtai s day)
+tai s day t = taiWith (dtai s day) day t

@@ -26,17 +26,13 @@ utsCutoff = 85_399_000_000
 abbrev pub nanosCutoff : ℕ
 nanosCutoff = 85_399_000_000_000
 
--- before Z, and on Z below the cut-off, which does not apply if Z is fully known
+-- an instant, t into a day, is known before Z, and on Z below the cut-off or if Z is fully known
 unfoldable pub knownTo : ℕ → ℕ → ℕ → ℕ → Bool
 knownTo Z cutoff day t = ltb day Z || (eqb day Z && (fullyKnown Z || ltb t cutoff))
 
--- an instant, t into a day, is known before Z, and on Z below the cut-off or if Z is fully known
-abbrev pub known : Schedule → ℕ → ℕ → ℕ → Bool
-known s cutoff day t = knownTo (lastDay s) cutoff day t
-
 -- DTAI is given through Z
-abbrev pub knownDate : Schedule → ℕ → Bool
-knownDate s day = leb day (lastDay s)
+abbrev pub knownDate : ℕ → ℕ → Bool
+knownDate Z day = leb day Z
 
 -- the TAI of Z at 86,399,000,000; or of Z's end, if it is fully known
 unfoldable pub taiEnd : Schedule → ℕ

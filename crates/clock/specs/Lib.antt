@@ -1,4 +1,4 @@
--- The clock's definitions, in the order of the paper; then leaps counted by their sign, as laws and contracts have them.
+-- The clock's definitions, in the order of the paper.
 pub mod Days
 pub mod Smoothed
 pub mod Document002
@@ -7,4 +7,3 @@ pub mod Question
 pub mod Taken
 pub mod Lists
 pub mod Answers
-pub mod Tally

@@ -8,9 +8,10 @@ use Rattle.refusals.specs.Refusals.{before1972, noInstant, notKnown, notWellFor
 use Rattle.calendar.specs.Calendar.{firstDay}
 use Rattle.calendar.specs.Greatest.{greatest}
 use Rattle.schedule.specs.Schedule.{Schedule, wellFormed}
+use Rattle.clock.specs.declared.Ending.{Ending}
 use Rattle.clock.specs.Days.{longDay, dtai, ending, dayLength, tai}
 use Rattle.clock.specs.Smoothed.{nanosPerDay, uts, utcOf}
-use Rattle.clock.specs.Known.{lastDay, taiCutoff, utsCutoff, nanosCutoff, known, knownDate, knownTai}
+use Rattle.clock.specs.Known.{lastDay, taiCutoff, utsCutoff, nanosCutoff, knownTo, knownDate, knownTai}
 
 -- a result with number 0 and the values asked for, or a refusal with its number
 pub data Answer (A : Type 0) : Type 0 where
@@ -31,33 +32,35 @@ pub record Utc : Type 0 where
   pub day : ℕ
   pub micros : ℕ
 
+-- What is checked of a schedule is whether it is well formed, and Z, its last day before expiry.
+
 -- For a date: 11, 8, 10; and then v.
-abbrev pub atDate : {A : Type 0} → Schedule → ℕ → A → Answer A
-atDate s date v =
-    require (wellFormed s) notWellFormed
+abbrev pub atDate : {A : Type 0} → Bool → ℕ → ℕ → A → Answer A
+atDate well Z date v =
+    require well notWellFormed
     (require (leb firstDay date) before1972
-    (require (knownDate s date) notKnown
+    (require (knownDate Z date) notKnown
     (given v)))
 
 -- For an instant, t into a day: 11, 8, then 9 if t is the limit or more, 10; and then the answer a. On Z it is known below the cut-off.
-abbrev pub atInstant : {A : Type 0} → Schedule → ℕ → ℕ → ℕ → ℕ → Answer A → Answer A
-atInstant s limit cutoff day t a =
-    require (wellFormed s) notWellFormed
+abbrev pub atInstant : {A : Type 0} → Bool → ℕ → ℕ → ℕ → ℕ → ℕ → Answer A → Answer A
+atInstant well Z limit cutoff day t a =
+    require well notWellFormed
     (require (leb firstDay day) before1972
     (require (ltb t limit) noInstant
-    (require (known s cutoff day t) notKnown
+    (require (knownTo Z cutoff day t) notKnown
     a)))
 
--- UTC instants: 11, 8, then 9 if t is 86,401,000,000 or more, 10, then 9 if t is L or more; and then v.
-abbrev pub atUtc : {A : Type 0} → Schedule → ℕ → ℕ → ℕ → A → Answer A
-atUtc s cutoff day t v =
-    atInstant s longDay cutoff day t
-    (require (ltb t (dayLength (ending s day))) noInstant
+-- UTC instants of a day that ends with w: 11, 8, then 9 if t is 86,401,000,000 or more, 10, then 9 if t is L or more; and then v.
+abbrev pub atUtc : {A : Type 0} → Bool → ℕ → Ending → ℕ → ℕ → ℕ → A → Answer A
+atUtc well Z w cutoff day t v =
+    atInstant well Z longDay cutoff day t
+    (require (ltb t (dayLength w)) noInstant
     (given v))
 
 -- UTS instants: 11, 8, 9 (86,400,000,000,000 or more), 10; and then v.
-abbrev pub atUts : {A : Type 0} → Schedule → ℕ → ℕ → A → Answer A
-atUts s day u v = atInstant s nanosPerDay nanosCutoff day u (given v)
+abbrev pub atUts : {A : Type 0} → Bool → ℕ → ℕ → ℕ → A → Answer A
+atUts well Z day u v = atInstant well Z nanosPerDay nanosCutoff day u (given v)
 
 -- TAI: 11, 8, 10; and then v.
 abbrev pub atTai : {A : Type 0} → Schedule → ℕ → A → Answer A
@@ -69,11 +72,11 @@ atTai s x v =
 
 -- DTAI for a date
 abbrev pub dtaiOn : Schedule → ℕ → Answer ℤ
-dtaiOn s day = atDate s day (dtai s day)
+dtaiOn s day = atDate (wellFormed s) (lastDay s) day (dtai s day)
 
 -- UTC to TAI
 abbrev pub utcToTai : Schedule → ℕ → ℕ → Answer ℕ
-utcToTai s day t = atUtc s taiCutoff day t (tai s day t)
+utcToTai s day t = atUtc (wellFormed s) (lastDay s) (ending s day) taiCutoff day t (tai s day t)
 
 -- TAI to UTC: the day is the last one, up to Z, that starts by then; the instant given is the one whose TAI it is (`tai-inverse`)
 abbrev pub dayOf : Schedule → ℕ → ℕ
@@ -84,11 +87,11 @@ taiToUtc s x = atTai s x (record { day = dayOf s x; micros = x - tai s (dayOf s 
 
 -- UTC to UTS
 abbrev pub utcToUts : Schedule → ℕ → ℕ → Answer ℕ
-utcToUts s day t = atUtc s utsCutoff day t (uts (ending s day) t)
+utcToUts s day t = atUtc (wellFormed s) (lastDay s) (ending s day) utsCutoff day t (uts (ending s day) t)
 
 -- UTS to UTC
 abbrev pub utsToUtc : Schedule → ℕ → ℕ → Answer ℕ
-utsToUtc s day u = atUts s day u (utcOf (ending s day) u)
+utsToUtc s day u = atUts (wellFormed s) (lastDay s) day u (utcOf (ending s day) u)
 
 -- "A question is one of five", with any values at all as the date or instant
 pub data Question : Type 0 where

@@ -11,11 +11,13 @@ use Rattle.schedule.specs.Schedule.{Schedule, wellFormed}
 use Rattle.schedule.proofs.Cases.{by-bool}
 use Rattle.schedule.specs.WordLayout.{meant}
 use Rattle.schedule.specs.Answers.{HandsReading}
+use Rattle.schedule.proofs.Extension.{extends-itself, tests}
 use Rattle.schedule.proofs.ByReading.{by-refused, by-taken}
 use Rattle.schedule.proofs.Meant.{hands-meant}
 use Rattle.text.specs.Read.{readText}
 use Rattle.text.proofs.Sound.{read-formed, accepted-well-formed}
-use Rattle.compare.specs.Longer.{aboutBoth}
+use Rattle.compare.specs.declared.longer.Chosen.the-variants.{First, Refused}
+use Rattle.compare.specs.Longer.{chosenOf, aboutBoth, chosen}
 use Rattle.compare.specs.Private.{BothRead}
 
 -- the list that a text is read as
@@ -37,6 +39,11 @@ module _ {A : Type 0} (x y : List ℕ) (refuse : ℕ → A) (f : Schedule → Sc
   -- or an answer about both
   pub both-taken : Taken x → Taken y → aboutBoth x y refuse f ≡ f (readAs x) (readAs y)
   both-taken t u = by-taken (readText x) _ _ t ∙ by-taken (readText y) _ _ u
+
+-- of a list and itself the first is chosen
+pub same-taken : (x : List ℕ) → Taken x → chosen x x ≡ First
+unfolding chosenOf
+same-taken x t = both-taken x x Refused chosenOf t t ∙ rw (tests (extends-itself (readAs x) (accepted-well-formed x t)))
 
 -- one of two texts is refused, or both are read
 pub by-texts : {A : Type 0} (x y : List ℕ) → (readText x .number ≢ 0 → A) → (Taken x → readText y .number ≢ 0 → A) → (Taken x → Taken y → A) → A

@@ -3,7 +3,7 @@
 use mathlib.Core.Bool.{true}
 use mathlib.Core.List.{List}
 use mathlib.Core.Path.{_≡_, ap₂, _∙_}
-use Prim.Native.Nat.{ℕ, _+_, _-_, _*_, _≤_, _<_}
+use Prim.Native.Nat.{ℕ, _+_, _-_, _*_, _≤_, _<_, min}
 use native.Mathlib.Omega.{arith}
 use lib.ListN.{getD}
 use Rattle.calendar.specs.Calendar.{lastMonth, endDay}
@@ -16,10 +16,8 @@ use Rattle.clock.specs.Known.{lastDay}
 
 module _ (words : List ℕ) (w : wellFormed (meant words) ≡ true) where
   -- the day before the expiry word is the last day of the list
-  pub last-meant : {expiry last : ℕ} → expiry ≡ expiryWord words → (expiry ≤ endDay → last ≡ expiry - 1) → last ≡ lastDay (meant words)
-  last-meant same e =
-      let is = expiry-is words w in
-      e (omega (arith, parts (meant words) w .end)) ∙ omega arith
+  pub last-meant : {expiry last : ℕ} → expiry ≡ expiryWord words → last ≡ min (expiry - 1) (endDay - 1) → last ≡ lastDay (meant words)
+  last-meant same e = omega (arith, expiry-is words w, parts (meant words) w .end)
 
   pub leap-meant : (i : ℕ) → i < countWord words → getD (meant words .leaps) i noLeap ≡ leapBy (getD words (2 * i) 0) (getD words (2 * i + 1) 0)
   leap-meant i h =

@@ -4,5 +4,6 @@ pub mod Looked
 pub mod Places
 pub mod Told
 pub mod Near
+pub mod Said
+pub mod Signs
 pub mod Signed
-pub mod Wraps

@@ -3,11 +3,12 @@
 use mathlib.Core.Bool.{true}
 use mathlib.Core.List.{List}
 use mathlib.Core.Logic.{⊎-elim}
-use mathlib.Core.Path.{_≡_, refl, sym, ap, _∙_}
+use mathlib.Core.Path.{_≡_, refl, sym, ap, ap₂, _∙_}
 use Prim.Native.Nat.{ℕ, _+_, _-_, _≤_, _<_}
 use native.Mathlib.Decide.{decLt}
 use native.Mathlib.Nat.{eq-or-lt-of-le}
 use native.Mathlib.Omega.{arith}
+use lib.IntN.{subℕ}
 use lib.ListN.{length, getD, take}
 use lib.Seq.{length-take-le}
 use Rattle.calendar.specs.Calendar.{monthStart, InMonth}
@@ -15,14 +16,14 @@ use Rattle.calendar.proofs.Laws.{start-zero, start-from, start-le}
 use Rattle.schedule.specs.declared.Sign.{Sign}
 use Rattle.schedule.specs.declared.Sign.the-variants.{Positive, Negative}
 use Rattle.schedule.specs.Schedule.{Leap, Schedule, noLeap, gapsFit, wellFormed}
-use Rattle.schedule.specs.Extends.{sameSign}
 use Rattle.schedule.proofs.Gaps.{later}
-use Rattle.questions.specs.declared.look.Survey.{Survey}
+use Rattle.questions.specs.declared.by_day.Day.{Day}
 use Rattle.clock.specs.declared.Ending.the-variants.{Ordinary}
-use Rattle.clock.specs.Days.{endingOf, ending}
-use Rattle.clock.specs.Tally.{count, ofSign}
-use Rattle.questions.specs.Private.{ByMonth, Lowered, Ahead, TalliedOn}
-use Rattle.clock.proofs.Placed.{leapMonth, in-order, of-sign-next, both-signs, Placed, tally-by, ending-same, ending-next}
+use Rattle.clock.specs.Days.{firstDtai, endingOf, ending}
+use Rattle.questions.specs.Said.{SaidOf}
+use Rattle.questions.specs.Private.{ByMonth, oneOf, ofSign, Lowered, Ahead}
+use Rattle.clock.proofs.Placed.{leapMonth, in-order, Placed, ending-same, ending-next}
+use Rattle.questions.proofs.Signs.{of-sign-next, both-signs, dtai-placed}
 
 -- a search from the last leap back: those from n on lie after the month
 pub record Beyond (ls : List Leap) (month n : ℕ) : Type 0 where
@@ -61,10 +62,10 @@ lowered-none ls = record { sum = refl; few = omega arith }
 
 -- one leap more
 pub lowered-one : {ls : List Leap} {n down : ℕ} → Lowered ls n down → n < length ls → (sign : Sign) → getD ls n noLeap .sign ≡ sign
-    → (r : ℕ) → r ≡ count (sameSign Negative sign) → r ≤ 1 → Lowered ls (n + 1) (down + r)
+    → (r : ℕ) → r ≡ oneOf Negative sign → r ≤ 1 → Lowered ls (n + 1) (down + r)
 lowered-one {ls} {n} {down} p h sign e r f small =
     record {
-      sum = omega (arith, p .sum, f, of-sign-next Negative ls n h, ap (λ x. count (sameSign Negative x)) e);
+      sum = omega (arith, p .sum, f, of-sign-next Negative ls n h, ap (λ x. oneOf Negative x) e);
       few = omega (arith, p .few);
     }
 
@@ -90,25 +91,28 @@ module _ (s : Schedule) (w : wellFormed s ≡ true) (day month n down next : ℕ
   positives : ofSign Positive (take n (s .leaps)) ≡ n - down
   positives = omega (arith, both-signs (take n (s .leaps)), length-take-le n (s .leaps) (p .room), l .sum)
 
-  tallied-by : (v : Survey) → v .up ≡ n - down → v .down ≡ down → v .ending ≡ ending s day → TalliedOn s day v
-  tallied-by v eu ed f =
-      record { up = eu ∙ sym (tally-by s w here Positive ∙ positives); down = ed ∙ l .sum ∙ sym (tally-by s w here Negative); ends = f }
+  said-by : (k : Day) → k .up ≡ n - down → k .down ≡ down → k .ending ≡ ending s day → SaidOf s day k
+  said-by k eu ed f =
+      record {
+        offset = ap₂ (λ up low. subℕ (firstDtai + up) low) (eu ∙ sym positives) (ed ∙ l .sum) ∙ sym (dtai-placed s w here);
+        ends = f;
+      }
 
   -- no leap takes effect on the next day
-  pub tallied-same : (monthStart next - 1 ≡ day → ⊥) → (v : Survey) → v .up ≡ n - down → v .down ≡ down → v .ending ≡ Ordinary → TalliedOn s day v
-  tallied-same ne v eu ed f = tallied-by v eu ed (f ∙ sym (ending-same s w here other))
+  pub said-same : (monthStart next - 1 ≡ day → ⊥) → (k : Day) → k .up ≡ n - down → k .down ≡ down → k .ending ≡ Ordinary → SaidOf s day k
+  said-same ne k eu ed f = said-by k eu ed (f ∙ sym (ending-same s w here other))
     where
       other : n < length (s .leaps) → monthStart (leapMonth (s .leaps) n) ≡ day + 1 → ⊥
       other h e = let k : monthStart next ≡ day + 1 = sym (ap (λ l. monthStart (l .month)) (q .some h)) ∙ e in ne (omega arith)
 
   -- the next leap does
-  pub tallied-next : monthStart next - 1 ≡ day → (v : Survey) → v .up ≡ n - down → v .down ≡ down → v .ending ≡ endingOf sign → TalliedOn s day v
-  tallied-next e v eu ed f =
+  pub said-next : monthStart next - 1 ≡ day → (k : Day) → k .up ≡ n - down → k .down ≡ down → k .ending ≡ endingOf sign → SaidOf s day k
+  said-next e k eu ed f =
       let some : n < length (s .leaps) =
       elim (decLt n (length (s .leaps))) [
-        | yes k ↦ k
-        | no k ↦ absurd (let z = q .none (omega arith) in omega (arith, rw z at e, start-zero, start-from month, i .from))
+        | yes z ↦ z
+        | no z ↦ absurd (let none = q .none (omega arith) in omega (arith, rw none at e, start-zero, start-from month, i .from))
       ] in
       let leap = q .some some in
       let start : monthStart (leapMonth (s .leaps) n) ≡ day + 1 = ap (λ l. monthStart (l .month)) leap ∙ omega (arith, e, start-from next) in
-      tallied-by v eu ed (f ∙ sym (ending-next s w day n some start ∙ ap (λ l. endingOf (l .sign)) leap))
+      said-by k eu ed (f ∙ sym (ending-next s w day n some start ∙ ap (λ l. endingOf (l .sign)) leap))

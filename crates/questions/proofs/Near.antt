@@ -1,11 +1,12 @@
 -- TAI to UTC by the day near the TAI: it has begun by then, and the instant lies on it or on the next.
 -- Assumes nothing.
-use mathlib.Core.Bool.{true}
-use mathlib.Core.Path.{_≡_, sym, ap, _∙_}
+use mathlib.Core.Bool.{true, cond}
+use mathlib.Core.Path.{_≡_, refl, sym, ap, _∙_}
 use Prim.Native.Nat.{ℕ, _+_, _-_, _≤_, _<_}
 use native.Mathlib.Decide.{decLt}
 use native.Mathlib.Omega.{arith}
-use borrow.Author.Tests.{le-ltb, le-leb, lt-leb}
+use lib.Dec.{ltb}
+use borrow.Author.Tests.{lt-ltb, le-ltb, le-leb, lt-leb}
 use Rattle.refusals.specs.Refusals.{before1972, notKnown, notWellFormed}
 use Rattle.calendar.specs.Calendar.{firstDay}
 use Rattle.calendar.proofs.Greatest.{greatest-is}
@@ -17,8 +18,7 @@ use Rattle.clock.specs.Question.{given, require, firstTai, dayOf, taiToUtc}
 use Rattle.clock.proofs.Tai.{length-least, tai-low, tai-high, tai-first, tai-next, tai-rises}
 use Rattle.clock.proofs.Checks.{known-after, pass, stop}
 use Rattle.clock.proofs.Instant.{last-from, end-open, end-shut, end-from, known-in-day}
-use Rattle.questions.specs.Said.{mostDtai, nearDay}
-use Rattle.questions.specs.Private.{onDay}
+use Rattle.questions.specs.Said.{mostDtai, nearDay, onDay}
 
 module _ (s : Schedule) (w : wellFormed s ≡ true) (x : ℕ) (h : firstTai ≤ x) where
   -- the answer, by the day of x and its start
@@ -64,3 +64,26 @@ module _ (s : Schedule) (w : wellFormed s ≡ true) (x : ℕ) (h : firstTai ≤ 
     near-inside l =
         let from = near-from in
         omega (arith, tai-low s w (near + 1) (omega arith), length-least (ending s (near + 1)))
+
+    -- the instant so far after the start of that day
+    pub from-near : cond (ltb (x - tai s near 0) (dayLength (ending s near))) (onDay near (x - tai s near 0) (lastDay s))
+        (onDay (near + 1) (x - tai s near 0 - dayLength (ending s near)) (lastDay s))
+        ≡ taiToUtc s x
+    from-near =
+        let begun = near-begun in
+        elim (decLt (x - tai s near 0) (dayLength (ending s near))) [
+          | yes l ↦ rw (lt-ltb (x - tai s near 0) (dayLength (ending s near)) l) (utc-answer near (tai s near 0) (near-stays (λ _. omega arith)) refl (omega arith))
+          | no l ↦
+              let past : tai s near 0 + dayLength (ending s near) ≤ x = omega arith in
+              let next = tai-next s w near near-from in
+              rw (le-ltb (x - tai s near 0) (dayLength (ending s near)) (omega arith))
+              (elim (decLt near (lastDay s)) [
+                | yes m ↦
+                    ap (λ u. onDay (near + 1) u (lastDay s)) (omega arith)
+                    ∙ utc-answer (near + 1) (tai s near 0 + dayLength (ending s near)) (near-steps m past) (sym next) (near-inside m)
+                | no m ↦
+                    let z : near ≡ lastDay s = omega arith in
+                    ap (λ d. onDay (d + 1) (x - tai s near 0 - dayLength (ending s near)) (lastDay s)) z
+                    ∙ utc-past (x - tai s near 0 - dayLength (ending s near)) (omega (arith, ap (λ d. tai s d 0 + dayLength (ending s d)) z))
+              ])
+        ]

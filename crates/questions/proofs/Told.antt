@@ -9,9 +9,9 @@ use lib.Dec.{leb, ltb}
 use borrow.Author.Tests.{lt-ltb, le-leb, lt-leb}
 use Rattle.refusals.specs.Refusals.{before1972, noInstant, notKnown, notWellFormed}
 use Rattle.calendar.specs.Calendar.{firstDay}
-use Rattle.schedule.specs.Schedule.{Schedule, wellFormed}
-use Rattle.clock.specs.Days.{longDay, shortDay, ending, dayLength}
-use Rattle.clock.specs.Known.{lastDay, knownTo, known, knownDate}
+use Rattle.clock.specs.declared.Ending.{Ending}
+use Rattle.clock.specs.Days.{longDay, shortDay, dayLength}
+use Rattle.clock.specs.Known.{knownTo}
 use Rattle.clock.specs.Question.{Answer, given, refused, require, atDate, atInstant, atUtc}
 use Rattle.questions.specs.Private.{told}
 use Rattle.clock.proofs.Tai.{length-least}
@@ -29,13 +29,15 @@ known-on-date last cutoff day t h =
           ]
     ]
 
-pub early-as-date : (s : Schedule) (limit cutoff day t : ℕ) → t < limit → t < cutoff → _≡_ {A = Answer (Unit {0})} (atInstant s limit cutoff day t (given tt)) (atDate s day tt)
-early-as-date s limit cutoff day t h g = rw (lt-ltb t limit h, known-on-date (lastDay s) cutoff day t g)
+pub early-as-date : {A : Type 0} (v : A) (well : Bool) (Z limit cutoff day t : ℕ) → t < limit → t < cutoff
+    → _≡_ {A = Answer A} (atInstant well Z limit cutoff day t (given v)) (atDate well Z day v)
+early-as-date v well Z limit cutoff day t h g = rw (lt-ltb t limit h, known-on-date Z cutoff day t g)
 
-pub early-utc : (s : Schedule) (cutoff day t : ℕ) → cutoff ≤ shortDay → t < cutoff → _≡_ {A = Answer (Unit {0})} (atUtc s cutoff day t tt) (atDate s day tt)
-early-utc s cutoff day t h g =
-    ap (λ a. atInstant s longDay cutoff day t a) (pass noInstant (lt-ltb t (dayLength (ending s day)) (omega (arith, length-least (ending s day)))))
-    ∙ early-as-date s longDay cutoff day t (omega arith) g
+pub early-utc : {A : Type 0} (v : A) (well : Bool) (Z : ℕ) (w : Ending) (cutoff day t : ℕ) → cutoff ≤ shortDay → t < cutoff
+    → _≡_ {A = Answer A} (atUtc well Z w cutoff day t v) (atDate well Z day v)
+early-utc v well Z w cutoff day t h g =
+    ap (λ a. atInstant well Z longDay cutoff day t a) (pass noInstant (lt-ltb t (dayLength w) (omega (arith, length-least w))))
+    ∙ early-as-date v well Z longDay cutoff day t (omega arith) g
 
 -- ---- the checks do not look at what comes after them: what the number of a chain says of every question that it stands before
 
@@ -48,34 +50,33 @@ require-then : {A : Type 0} {b : Answer A} {a : Answer (Unit {0})} {a′ : Answe
 require-then true n h = h
 require-then false n h = both-refused n
 
-pub date-then : {A : Type 0} (s : Schedule) (date : ℕ) (v : A) → Then (given v) (atDate s date tt) (atDate s date v)
-date-then s date v =
-    require-then (wellFormed s) notWellFormed
+pub date-then : {A : Type 0} (well : Bool) (Z date : ℕ) (v : A) → Then (given v) (atDate well Z date tt) (atDate well Z date v)
+date-then well Z date v =
+    require-then well notWellFormed
     (require-then (leb firstDay date) before1972
-    (require-then (knownDate s date) notKnown both-pass))
+    (require-then (leb date Z) notKnown both-pass))
 
-checks-then : {A : Type 0} {b : Answer A} {a : Answer (Unit {0})} {a′ : Answer A} (s : Schedule) (limit cutoff day t : ℕ) → Then b a a′
-    → Then b (atInstant s limit cutoff day t a) (atInstant s limit cutoff day t a′)
-checks-then s limit cutoff day t h =
-    require-then (wellFormed s) notWellFormed
+checks-then : {A : Type 0} {b : Answer A} {a : Answer (Unit {0})} {a′ : Answer A} (well : Bool) (Z limit cutoff day t : ℕ) → Then b a a′
+    → Then b (atInstant well Z limit cutoff day t a) (atInstant well Z limit cutoff day t a′)
+checks-then well Z limit cutoff day t h =
+    require-then well notWellFormed
     (require-then (leb firstDay day) before1972
     (require-then (ltb t limit) noInstant
-    (require-then (known s cutoff day t) notKnown h)))
+    (require-then (knownTo Z cutoff day t) notKnown h)))
 
-pub instant-then : {A : Type 0} (s : Schedule) (limit cutoff day t : ℕ) (b : Answer A) → Then b (atInstant s limit cutoff day t (given tt)) (atInstant s limit cutoff day t b)
-instant-then s limit cutoff day t b = checks-then s limit cutoff day t both-pass
+pub instant-then : {A : Type 0} (well : Bool) (Z limit cutoff day t : ℕ) (b : Answer A)
+    → Then b (atInstant well Z limit cutoff day t (given tt)) (atInstant well Z limit cutoff day t b)
+instant-then well Z limit cutoff day t b = checks-then well Z limit cutoff day t both-pass
 
-pub utc-then : {A : Type 0} (s : Schedule) (cutoff day t : ℕ) (v : A) → Then (given v) (atUtc s cutoff day t tt) (atUtc s cutoff day t v)
-utc-then s cutoff day t v = checks-then s longDay cutoff day t (require-then (ltb t (dayLength (ending s day))) noInstant both-pass)
+pub utc-then : {A : Type 0} (well : Bool) (Z : ℕ) (w : Ending) (cutoff day t : ℕ) (v : A)
+    → Then (given v) (atUtc well Z w cutoff day t tt) (atUtc well Z w cutoff day t v)
+utc-then well Z w cutoff day t v = checks-then well Z longDay cutoff day t (require-then (ltb t (dayLength w)) noInstant both-pass)
 
 -- number 0 says that the checks are passed, and any other is the refusal
-pub all-passed : {a : Answer (Unit {0})} (n : ℕ) → a ≡ told n → n ≡ 0 → a ≡ given tt
-all-passed zero e z = e
-all-passed (suc n) e z = absurd (omega arith)
-
-pub then-passed : {A : Type 0} {b : Answer A} {a : Answer (Unit {0})} {a′ : Answer A} → Then b a a′ → a ≡ given tt → a′ ≡ b
-then-passed both-pass e = refl
-then-passed (both-refused n) e = absurd (let z : _≡_ {A = ℕ} 0 1 = cc in omega arith)
+pub then-passed : {A : Type 0} {b : Answer A} {a : Answer (Unit {0})} {a′ : Answer A} (n : ℕ) → Then b a a′ → a ≡ told n → n ≡ 0 → a′ ≡ b
+then-passed zero both-pass e z = refl
+then-passed zero (both-refused m) e z = absurd (let z : _≡_ {A = ℕ} 0 1 = cc in omega arith)
+then-passed (suc n) h e z = absurd (omega arith)
 
 pub then-refused : {A : Type 0} {b : Answer A} {a : Answer (Unit {0})} {a′ : Answer A} (n : ℕ) → Then b a a′ → a ≡ told n → (n ≡ 0 → ⊥) → a′ ≡ refused n
 then-refused zero h e f = absurd (f refl)

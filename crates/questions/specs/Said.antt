@@ -1,37 +1,90 @@
--- What a list says of a day, as `by_day` has it: its contracts speak of these, for single questions and for many.
+-- What a list says of a day, as `by_day` has it, and what is answered by it: for single questions, whose day is found in the words, and for many,
+-- whose days are found in a list prepared. Where a schedule says it of the day, the answers are the schedule's (`dtai-said`, `tai-said`, ..).
 -- Assumes nothing: these are definitions.
-use mathlib.Core.Bool.{Bool, true}
+use mathlib.Core.Bool.{Bool, true, cond}
 use mathlib.Core.Path.{_≡_}
-use Prim.Native.Nat.{ℕ, _+_, _-_, _/_, _≤_, min}
-use Rattle.calendar.specs.Calendar.{firstDay}
-use Rattle.schedule.specs.declared.Sign.the-variants.{Positive, Negative}
+use Prim.Native.Nat.{ℕ, _+_, _-_, _*_, _/_, _≤_, min}
+use lib.Dec.{leb, ltb}
+use lib.IntN.{ℤ, subℕ}
+use Rattle.refusals.specs.Refusals.{before1972, notKnown, notWellFormed}
+use Rattle.calendar.specs.Calendar.{firstDay, endDay}
 use Rattle.schedule.specs.Schedule.{Schedule, wellFormed}
-use Rattle.clock.specs.Days.{microsPerDay, ending}
-use Rattle.clock.specs.Known.{lastDay}
-use Rattle.clock.specs.Tally.{tally}
+use Rattle.clock.specs.Days.{microsPerDay, firstDtai, dtai, ending, dayLength, taiWith}
+use Rattle.clock.specs.Smoothed.{uts, utcOf}
+use Rattle.clock.specs.Known.{lastDay, taiCutoff, utsCutoff, knownTo}
+use Rattle.clock.specs.Question.{Answer, given, require, atDate, atUtc, atUts, firstTai, Utc}
 use Rattle.questions.specs.declared.by_day.Day.{Day}
 
--- what a schedule says of a day
-abbrev pub dayOn : Schedule → ℕ → Day
-dayOn s day =
-    record { well = wellFormed s; up = tally Positive (s .leaps) day; down = tally Negative (s .leaps) day; ending = ending s day; last = lastDay s }
+-- ---- what a schedule says of a day
+
+-- the DTAI that is said of a day: 10, the seconds added by then, less those taken away
+abbrev pub dtaiSaid : Day → ℤ
+dtaiSaid k = subℕ (firstDtai + k .up) (k .down)
 
 -- whether the schedule is well formed; and, for a well-formed one, its last day
 pub record ListFor (s : Schedule) (well : Bool) (last : ℕ) : Type 0 where
   pub is-well : well ≡ wellFormed s
   pub is-last : wellFormed s ≡ true → last ≡ lastDay s
 
--- k is what the schedule says of the day: for any schedule, whether it is well formed; for a well-formed one also its last day;
--- and all of it for a day from 1972 through the last one
-pub record DayFor (s : Schedule) (day : ℕ) (k : Day) : Type 0 where
-  pub well : k .well ≡ wellFormed s
-  pub last : wellFormed s ≡ true → k .last ≡ lastDay s
-  pub is : wellFormed s ≡ true → firstDay ≤ day → day ≤ lastDay s → k ≡ dayOn s day
+-- the day's DTAI, and how it ends
+pub record SaidOf (s : Schedule) (day : ℕ) (k : Day) : Type 0 where
+  pub offset : dtaiSaid k ≡ dtai s day
+  pub ends : k .ending ≡ ending s day
 
--- no DTAI is above 266 s: in microseconds
+-- k is what the schedule says of the day: for any schedule, whether it is well formed; for a well-formed one also its last day;
+-- and DTAI and how the day ends for a day from 1972 through the last one
+pub record DayFor (s : Schedule) (day : ℕ) (k : Day) : Type 0 where
+  pub list : ListFor s (k .well) (k .last)
+  pub is : wellFormed s ≡ true → firstDay ≤ day → day ≤ lastDay s → SaidOf s day k
+
+-- ---- what is answered by it
+
+-- no list knows a day after the calendar's last
+abbrev pub inCalendar : ℕ → ℕ
+inCalendar last = min last (endDay - 1)
+
+-- DTAI for a date
+abbrev pub dtaiBy : Day → ℕ → Answer ℤ
+dtaiBy k day = atDate (k .well) (k .last) day (dtaiSaid k)
+
+-- UTC to TAI
+abbrev pub taiBy : Day → ℕ → ℕ → Answer ℕ
+taiBy k day t = atUtc (k .well) (inCalendar (k .last)) (k .ending) taiCutoff day t (taiWith (dtaiSaid k) day t)
+
+-- UTC to UTS; and before the last 1,001 s of a day, under a list whose last day is given
+abbrev pub utsBy : Day → ℕ → ℕ → Answer ℕ
+utsBy k day t = atUtc (k .well) (k .last) (k .ending) utsCutoff day t (uts (k .ending) t)
+
+abbrev pub earlyUts : ℕ → ℕ → ℕ → Answer ℕ
+earlyUts last day t = atDate true last day (1000 * min t utsCutoff)
+
+-- UTS to UTC; and likewise
+abbrev pub microsBy : Day → ℕ → ℕ → Answer ℕ
+microsBy k day u = atUts (k .well) (k .last) day u (utcOf (k .ending) u)
+
+abbrev pub earlyMicros : ℕ → ℕ → ℕ → Answer ℕ
+earlyMicros last day u = atDate true last day (u / 1000)
+
+-- TAI to UTC goes by a day near the TAI: no DTAI is above 266 s, so the day that this gives is that of the TAI or the one before it, or `last`
 abbrev pub mostDtai : ℕ
 mostDtai = 266_000_000
 
--- the day of a TAI or the one before it, at most `last`
 abbrev pub nearDay : ℕ → ℕ → ℕ
 nearDay x last = min (firstDay + (x - mostDtai) / microsPerDay) last
+
+-- t microseconds into a day, if that is known where `last` is the last day
+abbrev pub onDay : ℕ → ℕ → ℕ → Answer Utc
+onDay day t last = require (knownTo last taiCutoff day t) notKnown (given (record { day = day; micros = t }))
+
+-- the instant t microseconds after a day's start: it lies on that day, or on the next
+abbrev pub fromStart : Day → ℕ → ℕ → Answer Utc
+fromStart k day t = cond (ltb t (dayLength (k .ending))) (onDay day t (k .last)) (onDay (day + 1) (t - dayLength (k .ending)) (k .last))
+
+-- TAI to UTC, by the day near it: 11, 8, 10; and then the instant so far after that day's start
+abbrev pub utcBy : Day → ℕ → ℕ → Answer Utc
+utcBy k near x =
+    require (k .well) notWellFormed
+    (require (leb firstTai x) before1972
+    (require (leb firstDay near) before1972
+    (require (leb near (inCalendar (k .last))) notKnown
+    (fromStart k near (x - taiWith (dtaiSaid k) near 0)))))

@@ -1,20 +1,14 @@
 // What is answered by what a list says of a day: for single questions, whose day is found in the words, and for many, whose days are found in a
-// list prepared. Of a `Day` that no list says nothing is promised but that the call ends.
+// list prepared.
 ghost use mathlib.Core.Path.{_≡_};
-ghost use mathlib.Core.Bool.{true};
-ghost use Prim.Native.Nat.{_+_, _-_, _≤_, _<_, min};
-ghost use lib.IntN.{subℕ};
+ghost use Prim.Native.Nat.{_-_, _≤_, _<_, min};
 ghost use Rattle.calendar.specs.Calendar.{endDay};
-ghost use Rattle.schedule.specs.Schedule.{Schedule, wellFormed};
-ghost use Rattle.clock.specs.Days.{firstDtai};
-ghost use Rattle.clock.specs.Known.{lastDay, utsCutoff, nanosCutoff};
-ghost use Rattle.clock.specs.Question.{dtaiOn, utcToTai, taiToUtc, utcToUts, utsToUtc};
-ghost use Rattle.clock.specs.Answers.{dtaiAnswer, taiAnswer, utcAnswer, utsAnswer, microsAnswer};
-ghost use Rattle.questions.specs.Said.{ListFor, DayFor, nearDay};
-ghost use Rattle.questions.specs.Private.{onDay};
+ghost use Rattle.clock.specs.Answers.{Kept, dtaiAnswer, taiAnswer, utcAnswer, utsAnswer, microsAnswer};
+ghost use Rattle.questions.specs.Said.{dtaiSaid, dtaiBy, taiBy, utsBy, earlyUts, microsBy, earlyMicros, nearDay, onDay, fromStart, utcBy};
 use crate::days::date_refusal;
 use crate::days::day_length;
-use crate::days::start_of;
+use crate::days::less;
+use crate::days::tai_at;
 use crate::days::wide;
 use crate::instants::instant_refusal;
 use crate::instants::is_known;
@@ -43,14 +37,12 @@ use clock::UtsNanos;
 use refusals::BEFORE_1972;
 use refusals::NOT_KNOWN;
 use refusals::NOT_WELL_FORMED;
-use std::num::wrapping_add_u64;
-use std::num::wrapping_sub_u64;
 
 // No DTAI is above 266 s: in microseconds.
 const MOST_DTAI: u64 = 266_000_000;
 
-// What a list says of a day: whether it is one, how many leaps of each sign are in effect on the day, how the day ends, and Z, the last day
-// before expiry.
+// What a list says of a day: whether it is one, how many seconds its leaps have added by then and how many they have taken away, how the day ends,
+// and Z, the last day before expiry.
 pub struct Day {
     pub well: bool,
     pub up: u16,
@@ -71,7 +63,7 @@ pub fn smaller(a: u64, b: u64) -> u64
 
 // The last day before an expiry. Past the calendar, where no list expires, it is the calendar's last day, and for day 0 it is day 0.
 pub fn day_before(expiry: u32) -> u64
-    ensures { λ r. ⌜ (expiry ≤ endDay → r ≡ expiry - 1) × (r < endDay) ⌝ }
+    ensures { λ r. ⌜ r ≡ min (expiry - 1) (endDay - 1) ⌝ }
 {
     if schedule::END_DAY < expiry {
         return END_DAY - 1;
@@ -92,55 +84,53 @@ pub fn near_day(x: u64, last: u64) -> u64
     smaller(FIRST_DAY + (x - MOST_DTAI) / MICROS_PER_DAY, last)
 }
 
-// DTAI by which so many leaps of each sign are in effect; it may be below zero.
-fn dtai_by(up: u16, down: u16) -> i32
-    ensures { λ r. ⌜ r ≡ subℕ (firstDtai + up) down ⌝ }
+// The DTAI that is said of a day; it may be below zero.
+fn dtai_said(k: Day) -> i32
+    ensures { λ r. ⌜ (r ≡ dtaiSaid k) × Kept (dtaiSaid k) ⌝ }
 {
-    (FIRST_DTAI + wide(up)) as i32 - wide(down) as i32
+    (FIRST_DTAI + wide(k.up)) as i32 - wide(k.down) as i32
 }
 
 // DTAI, TAI minus UTC, for a date.
 pub fn dtai_on(k: Day, day: u64) -> DtaiAnswer
-    ensures { λ r. ⌜ ((s : Schedule) → DayFor s day k → r ≡ dtaiAnswer (dtaiOn s day)) ⌝ }
+    ensures { λ r. ⌜ r ≡ dtaiAnswer (dtaiBy k day) ⌝ }
 {
     let number = date_refusal(k.well, k.last, day);
     if number != 0 {
         return DtaiAnswer::Refused(number);
     }
-    DtaiAnswer::Given(dtai_by(k.up, k.down))
+    DtaiAnswer::Given(dtai_said(k))
 }
 
 // UTC to TAI.
 pub fn tai_on(k: Day, day: u64, micros: u64) -> TaiAnswer
-    ensures { λ r. ⌜ ((s : Schedule) → DayFor s day k → r ≡ taiAnswer (utcToTai s day micros)) ⌝ }
+    ensures { λ r. ⌜ r ≡ taiAnswer (taiBy k day micros) ⌝ }
 {
-    let number = utc_refusal(k, TAI_CUTOFF, day, micros);
+    let w = k.ending;
+    let last = smaller(k.last, END_DAY - 1);
+    let number = utc_refusal(k.well, last, w, TAI_CUTOFF, day, micros);
     if number != 0 {
         return TaiAnswer::Refused(number);
     }
-    // No list ends so late.
-    if END_DAY <= k.last {
-        return TaiAnswer::Refused(NOT_KNOWN);
-    }
-    TaiAnswer::Given(TaiMicros(wrapping_add_u64(start_of(k, day), micros)))
+    TaiAnswer::Given(TaiMicros(tai_at(k, day, micros)))
 }
 
 // UTC to smoothed time.
 pub fn uts_on(k: Day, day: u64, micros: u64) -> UtsAnswer
-    ensures { λ r. ⌜ ((s : Schedule) → DayFor s day k → r ≡ utsAnswer (utcToUts s day micros)) ⌝ }
+    ensures { λ r. ⌜ r ≡ utsAnswer (utsBy k day micros) ⌝ }
 {
-    let number = utc_refusal(k, UTS_CUTOFF, day, micros);
+    let w = k.ending;
+    let number = utc_refusal(k.well, k.last, w, UTS_CUTOFF, day, micros);
     if number != 0 {
         return UtsAnswer::Refused(number);
     }
-    let w = k.ending;
     UtsAnswer::Given(UtsNanos(smoothed(w, micros)))
 }
 
 // UTC to smoothed time under a list, before the last 1,001 s of a day, where it does not depend on how the day ends and is known on every known
 // date.
 pub fn early_uts(last: u64, day: u64, micros: u64) -> UtsAnswer
-    ensures { λ r. ⌜ ((s : Schedule) → ListFor s true last → micros < utsCutoff → r ≡ utsAnswer (utcToUts s day micros)) ⌝ }
+    ensures { λ r. ⌜ r ≡ utsAnswer (earlyUts last day micros) ⌝ }
 {
     let number = date_refusal(true, last, day);
     if number != 0 {
@@ -152,7 +142,7 @@ pub fn early_uts(last: u64, day: u64, micros: u64) -> UtsAnswer
 
 // Smoothed time to UTC, likewise.
 pub fn early_micros(last: u64, day: u64, nanos: u64) -> MicrosAnswer
-    ensures { λ r. ⌜ ((s : Schedule) → ListFor s true last → nanos < nanosCutoff → r ≡ microsAnswer (utsToUtc s day nanos)) ⌝ }
+    ensures { λ r. ⌜ r ≡ microsAnswer (earlyMicros last day nanos) ⌝ }
 {
     let number = date_refusal(true, last, day);
     if number != 0 {
@@ -163,7 +153,7 @@ pub fn early_micros(last: u64, day: u64, nanos: u64) -> MicrosAnswer
 
 // Smoothed time to UTC: the greatest microsecond of the day whose smoothed time is not above the one given.
 pub fn micros_on(k: Day, day: u64, nanos: u64) -> MicrosAnswer
-    ensures { λ r. ⌜ ((s : Schedule) → DayFor s day k → r ≡ microsAnswer (utsToUtc s day nanos)) ⌝ }
+    ensures { λ r. ⌜ r ≡ microsAnswer (microsBy k day nanos) ⌝ }
 {
     let number = instant_refusal(k.well, k.last, NANOS_PER_DAY, NANOS_CUTOFF, day, nanos);
     if number != 0 {
@@ -183,9 +173,26 @@ fn on_day(day: u64, t: u64, last: u64) -> UtcAnswer
     UtcAnswer::Refused(NOT_KNOWN)
 }
 
+// The instant t microseconds after a day's start: it lies on that day, or on the next.
+fn from_start(k: Day, day: u64, t: u64) -> UtcAnswer
+    requires { ⌜ (day ≤ k .last) × (day < endDay) ⌝ }
+    ensures { λ r. ⌜ r ≡ utcAnswer (fromStart k day t) ⌝ }
+{
+    // Every day has so much, however it ends, and on the last day it is known.
+    if t < SHORT_DAY {
+        return UtcAnswer::Given(day, UtcMicros(t));
+    }
+    let w = k.ending;
+    let length = day_length(w);
+    if length <= t {
+        return on_day(day + 1, t - length, k.last);
+    }
+    on_day(day, t, k.last)
+}
+
 // TAI to UTC, by the day near it: the one instant whose TAI it is. It lies on that day or on the next.
 pub fn utc_on(k: Day, near: u64, tai: u64) -> UtcAnswer
-    ensures { λ r. ⌜ ((s : Schedule) → DayFor s near k → (wellFormed s ≡ true → near ≡ nearDay tai (lastDay s)) → r ≡ utcAnswer (taiToUtc s tai)) ⌝ }
+    ensures { λ r. ⌜ r ≡ utcAnswer (utcBy k near tai) ⌝ }
 {
     if !k.well {
         return UtcAnswer::Refused(NOT_WELL_FORMED);
@@ -193,20 +200,11 @@ pub fn utc_on(k: Day, near: u64, tai: u64) -> UtcAnswer
     if tai < FIRST_TAI {
         return UtcAnswer::Refused(BEFORE_1972);
     }
-    // No list knows so late a day.
-    if END_DAY <= near {
+    if near < FIRST_DAY {
+        return UtcAnswer::Refused(BEFORE_1972);
+    }
+    if smaller(k.last, END_DAY - 1) < near {
         return UtcAnswer::Refused(NOT_KNOWN);
     }
-    let last = k.last;
-    let t = wrapping_sub_u64(tai, start_of(k, near));
-    // Every day has so much, however it ends, and on the last day it is known.
-    if t < SHORT_DAY {
-        return UtcAnswer::Given(near, UtcMicros(t));
-    }
-    let w = k.ending;
-    let length = day_length(w);
-    if length <= t {
-        return on_day(near + 1, t - length, last);
-    }
-    on_day(near, t, last)
+    from_start(k, near, less(tai, tai_at(k, near, 0)))
 }

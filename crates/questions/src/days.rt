@@ -1,17 +1,16 @@
 // What a list says of a day, from one look at the words and one lookup in the calendar; and what a date is refused with.
 ghost use mathlib.Core.Path.{_≡_};
 ghost use mathlib.Core.Bool.{true};
-ghost use Prim.Native.Nat.{ℕ, _+_, _-_, _≤_, _<_};
+ghost use Prim.Native.Nat.{_-_, _≤_, _<_};
 ghost use Rattle.calendar.specs.Calendar.{firstDay, endDay};
-ghost use Rattle.schedule.specs.Schedule.{Schedule, wellFormed};
+ghost use Rattle.schedule.specs.Schedule.{wellFormed};
 ghost use Rattle.schedule.specs.WordLayout.{meant};
-ghost use Rattle.clock.specs.Days.{dayLength, tai};
+ghost use Rattle.clock.specs.Days.{longDay, dayLength, taiWith};
 ghost use Rattle.clock.specs.Known.{lastDay};
 ghost use Rattle.clock.specs.Question.{atDate};
-ghost use Rattle.questions.specs.Said.{dayOn, ListFor, DayFor};
-ghost use Rattle.questions.specs.Private.{SurveyedOn, told};
+ghost use Rattle.questions.specs.Said.{dtaiSaid, DayFor};
+ghost use Rattle.questions.specs.Private.{told};
 use crate::by_day::Day;
-use crate::look::Survey;
 use crate::look::look;
 use calendar::FIRST_DAY;
 use clock::Ending;
@@ -23,13 +22,22 @@ use clock::SHORT_DAY;
 use refusals::BEFORE_1972;
 use refusals::NOT_KNOWN;
 use refusals::NOT_WELL_FORMED;
-use std::num::wrapping_sub_u64;
 
 // A count as a wider number.
 pub(crate) fn wide(x: u16) -> u32
     ensures { λ r. ⌜ (r ≡ x) × (r < 65_536) ⌝ }
 {
     x as u32
+}
+
+// How much a number is above another, and 0 where it is below.
+pub(crate) fn less(a: u64, b: u64) -> u64
+    ensures { λ r. ⌜ r ≡ a - b ⌝ }
+{
+    if a < b {
+        return 0;
+    }
+    a - b
 }
 
 // A day's length in microseconds.
@@ -43,32 +51,17 @@ pub(crate) fn day_length(w: Ending) -> u64
     }
 }
 
-// What a list says of a day, by a look at it for the day, and its last day.
-pub(crate) fn day_by(v: Survey, last: u64) -> Day
-    ensures { λ r. ⌜ ((s : Schedule) (day : ℕ) → SurveyedOn s day v → (wellFormed s ≡ true → last ≡ lastDay s) → DayFor s day r) ⌝ }
-{
-    let ending = v.ending;
-    Day {
-        well: v.well,
-        up: v.up,
-        down: v.down,
-        ending,
-        last,
-    }
-}
-
 // What a list, whose last day is given, says of a day. Outside the calendar the lookup answers month 0, and only `well` and `last` mean something.
 pub(crate) fn day_in(words: &[u32; 514], last: u64, day: u64) -> Day
     ensures { λ r. ⌜ ((wellFormed (meant (now (words .entry))) ≡ true → last ≡ lastDay (meant (now (words .entry)))) → DayFor (meant (now (words .entry))) day r) ⌝ }
 {
     let found = calendar::month_of(day);
-    let v = look(words, wide(found.month), day);
-    day_by(v, last)
+    look(words, last, wide(found.month), day)
 }
 
 // The number with which a date is refused, or 0, by whether the schedule is well formed and its last day.
 pub(crate) fn date_refusal(well: bool, last: u64, date: u64) -> u8
-    ensures { λ r. ⌜ ((s : Schedule) → ListFor s well last → atDate s date tt ≡ told r) × (r ≡ 0 → date ≤ last) ⌝ }
+    ensures { λ r. ⌜ (atDate well last date tt ≡ told r) × (r ≡ 0 → (firstDay ≤ date) × (date ≤ last)) ⌝ }
 {
     if !well {
         return NOT_WELL_FORMED;
@@ -82,12 +75,13 @@ pub(crate) fn date_refusal(well: bool, last: u64, date: u64) -> u8
     0
 }
 
-// TAI at the start of a day of the calendar. Of counts that no list has by then the difference may wrap.
-pub(crate) fn start_of(k: Day, day: u64) -> u64
-    requires { ⌜ day < endDay ⌝ }
-    ensures { λ r. ⌜ ((s : Schedule) → wellFormed s ≡ true → firstDay ≤ day → k ≡ dayOn s day → r ≡ tai s day 0) ⌝ }
+// TAI, t microseconds into a day of the calendar.
+pub(crate) fn tai_at(k: Day, day: u64, t: u64) -> u64
+    requires { ⌜ (firstDay ≤ day) × (day < endDay) × (t < longDay) ⌝ }
+    ensures { λ r. ⌜ r ≡ taiWith (dtaiSaid k) day t ⌝ }
 {
-    let raised = MICROS_PER_DAY * day + MICROS_PER_SECOND * (FIRST_DTAI + wide(k.up)) as u64;
-    let lowered = MICROS_PER_DAY * FIRST_DAY + MICROS_PER_SECOND * wide(k.down) as u64;
-    wrapping_sub_u64(raised, lowered)
+    let raised = MICROS_PER_DAY * (day - FIRST_DAY)
+        + t
+        + MICROS_PER_SECOND * (FIRST_DTAI + wide(k.up)) as u64;
+    less(raised, MICROS_PER_SECOND * wide(k.down) as u64)
 }

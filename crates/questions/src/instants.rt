@@ -1,17 +1,16 @@
 // What an instant of UTC or of UTS is refused with, in the paper's order, by what the schedule says of its day.
 ghost use mathlib.Core.Path.{_≡_};
 ghost use Prim.Native.Nat.{_≤_, _<_};
-ghost use Rattle.schedule.specs.Schedule.{Schedule};
+ghost use Rattle.calendar.specs.Calendar.{firstDay};
 ghost use Rattle.clock.specs.Days.{shortDay, dayLength};
 ghost use Rattle.clock.specs.Known.{fullyKnown, knownTo};
 ghost use Rattle.clock.specs.Question.{given, atInstant, atUtc};
-ghost use Rattle.questions.specs.Said.{ListFor, DayFor};
 ghost use Rattle.questions.specs.Private.{told};
-use crate::by_day::Day;
 use crate::days::date_refusal;
 use crate::days::day_length;
 use calendar::END_DAY;
 use calendar::FIRST_DAY;
+use clock::Ending;
 use clock::LONG_DAY;
 use clock::SHORT_DAY;
 use refusals::BEFORE_1972;
@@ -55,7 +54,7 @@ pub(crate) fn instant_refusal(
     day: u64,
     t: u64,
 ) -> u8
-    ensures { λ r. ⌜ ((s : Schedule) → ListFor s well last → atInstant s limit cutoff day t (given tt) ≡ told r) × (r ≡ 0 → (day ≤ last) × (t < limit)) ⌝ }
+    ensures { λ r. ⌜ (atInstant well last limit cutoff day t (given tt) ≡ told r) × (r ≡ 0 → (firstDay ≤ day) × (day ≤ last) × (t < limit)) ⌝ }
 {
     if !well {
         return NOT_WELL_FORMED;
@@ -74,14 +73,14 @@ pub(crate) fn instant_refusal(
 
 // The number with which an instant of UTC is refused, or 0: at last it must lie within the day's own length. Below the cut-off it is known on
 // every known date.
-pub(crate) fn utc_refusal(k: Day, cutoff: u64, day: u64, t: u64) -> u8
+pub(crate) fn utc_refusal(well: bool, last: u64, w: Ending, cutoff: u64, day: u64, t: u64) -> u8
     requires { ⌜ cutoff ≤ shortDay ⌝ }
-    ensures { λ r. ⌜ ((s : Schedule) → DayFor s day k → atUtc s cutoff day t tt ≡ told r) × (r ≡ 0 → (day ≤ k .last) × (t < dayLength (k .ending))) ⌝ }
+    ensures { λ r. ⌜ (atUtc well last w cutoff day t tt ≡ told r) × (r ≡ 0 → (firstDay ≤ day) × (day ≤ last) × (t < dayLength w)) ⌝ }
 {
     if t < cutoff {
-        return date_refusal(k.well, k.last, day);
+        return date_refusal(well, last, day);
     }
-    let number = instant_refusal(k.well, k.last, LONG_DAY, cutoff, day, t);
+    let number = instant_refusal(well, last, LONG_DAY, cutoff, day, t);
     if number != 0 {
         return number;
     }
@@ -89,6 +88,5 @@ pub(crate) fn utc_refusal(k: Day, cutoff: u64, day: u64, t: u64) -> u8
     if t < SHORT_DAY {
         return 0;
     }
-    let w = k.ending;
     if t < day_length(w) { 0 } else { NO_INSTANT }
 }

@@ -1,5 +1,4 @@
-// One look at a list for a day, where its words stand: whether they are a list, how many leaps of each sign are in effect on the day, and how it
-// ends.
+// One look at a list for a day, where its words stand: what it says of the day.
 ghost use mathlib.Core.Path.{_≡_};
 ghost use mathlib.Core.Bool.{true, false};
 ghost use Prim.Native.Nat.{ℕ, _≤_, _<_};
@@ -7,23 +6,15 @@ ghost use lib.ListN.{length};
 ghost use Rattle.calendar.specs.Calendar.{lastMonth, InMonth};
 ghost use Rattle.schedule.specs.Schedule.{Schedule, maxLeaps, wellFormed};
 ghost use Rattle.schedule.specs.WordLayout.{meant};
-ghost use Rattle.schedule.specs.Extends.{sameSign};
 ghost use Rattle.schedule.specs.declared.Sign.the-variants.{Negative};
 ghost use Rattle.clock.specs.Days.{endingOf};
-ghost use Rattle.clock.specs.Tally.{count};
-ghost use Rattle.questions.specs.Private.{ByMonth, Lowered, Ahead, TalliedOn, Surveyed};
+ghost use Rattle.questions.specs.Said.{SaidOf};
+ghost use Rattle.questions.specs.Private.{ByMonth, oneOf, Lowered, Ahead};
+use crate::by_day::Day;
 use crate::days::wide;
 use clock::Ending;
 use schedule::Sign;
 use schedule::sign_of;
-
-// Whether a schedule is well formed, how many leaps of each sign are in effect on a day, and how the day ends.
-pub(crate) struct Survey {
-    pub(crate) well: bool,
-    pub(crate) up: u16,
-    pub(crate) down: u16,
-    pub(crate) ending: Ending,
-}
 
 // How a day ends at whose end a leap of the sign happens.
 fn ending_of(sign: Sign) -> Ending
@@ -37,7 +28,7 @@ fn ending_of(sign: Sign) -> Ending
 
 // 1 for a negative leap, else 0.
 pub(crate) fn takes(sign: Sign) -> u16
-    ensures { λ r. ⌜ (r ≡ count (sameSign Negative sign)) × (r ≤ 1) ⌝ }
+    ensures { λ r. ⌜ (r ≡ oneOf Negative sign) × (r ≤ 1) ⌝ }
 {
     match sign {
         Sign::Positive => 0,
@@ -45,39 +36,43 @@ pub(crate) fn takes(sign: Sign) -> u16
     }
 }
 
-pub(crate) fn malformed() -> Survey
-    ensures { λ r. ⌜ r .well ≡ false ⌝ }
+// What words that are no list say of a day.
+fn malformed(last: u64) -> Day
+    ensures { λ r. ⌜ (r .well ≡ false) × (r .last ≡ last) ⌝ }
 {
-    Survey {
+    Day {
         well: false,
         up: 0,
         down: 0,
         ending: Ending::Ordinary,
+        last,
     }
 }
 
-// The survey of a day at whose month, or before it, n leaps lie, `down` of them negative; the next leap has that month and sign, and month 0
+// What is said of a day at whose month, or before it, n leaps lie, `down` of them negative; the next leap has that month and sign, and month 0
 // stands for none.
-pub(crate) fn survey_by(n: usize, down: u32, next: u16, sign: Sign, day: u64) -> Survey
+fn said_by(n: usize, down: u32, next: u16, sign: Sign, last: u64, day: u64) -> Day
     requires { ⌜ (n ≤ maxLeaps) × (down ≤ n) × (next ≤ lastMonth) ⌝ }
-    ensures { λ r. ⌜ (r .well ≡ true) × ((s : Schedule) (month : ℕ) → wellFormed s ≡ true → ByMonth (s .leaps) month n → Lowered (s .leaps) n down → Ahead (s .leaps) n next sign → InMonth day month → TalliedOn s day r) ⌝ }
+    ensures { λ r. ⌜ (r .well ≡ true) × (r .last ≡ last) × ((s : Schedule) (month : ℕ) → wellFormed s ≡ true → ByMonth (s .leaps) month n → Lowered (s .leaps) n down → Ahead (s .leaps) n next sign → InMonth day month → SaidOf s day r) ⌝ }
 {
     let up = (n as u32 - down) as u16;
     let lowered = down as u16;
-    // Seldom a leap takes effect on the next day.
+    // Rarely does a leap take effect on the next day.
     if calendar::first_day(next) - 1 == day {
-        return Survey {
+        return Day {
             well: true,
             up,
             down: lowered,
             ending: ending_of(sign),
+            last,
         };
     }
-    Survey {
+    Day {
         well: true,
         up,
         down: lowered,
         ending: Ending::Ordinary,
+        last,
     }
 }
 
@@ -112,19 +107,19 @@ fn lowered(words: &[u32; 514], n: usize) -> u32
     down
 }
 
-// The look at a list for a day of a month.
-pub(crate) fn look(words: &[u32; 514], month: u32, day: u64) -> Survey
-    ensures { λ r. ⌜ Surveyed (meant (now (words .entry))) month day r ⌝ }
+// The look at a list, whose last day is given, for a day of a month.
+pub(crate) fn look(words: &[u32; 514], last: u64, month: u32, day: u64) -> Day
+    ensures { λ r. ⌜ (r .well ≡ wellFormed (meant (now (words .entry)))) × (r .last ≡ last) × (wellFormed (meant (now (words .entry))) ≡ true → InMonth day month → SaidOf (meant (now (words .entry))) day r) ⌝ }
 {
     if !schedule::is_list(words) {
-        return malformed();
+        return malformed(last);
     }
     let n = leaps_by(words, month);
     let down = lowered(words, n);
     if n < schedule::count_of(words) {
         let next = words[2 * n];
         let sign = sign_of(words[2 * n + 1]);
-        return survey_by(n, down, next as u16, sign, day);
+        return said_by(n, down, next as u16, sign, last, day);
     }
-    survey_by(n, down, 0, Sign::Positive, day)
+    said_by(n, down, 0, Sign::Positive, last, day)
 }

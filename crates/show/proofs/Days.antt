@@ -13,7 +13,7 @@ use Rattle.schedule.specs.declared.Sign.the-variants.{Positive, Negative}
 use Rattle.schedule.specs.Schedule.{Leap, Schedule, gapsFit, wellFormed}
 use Rattle.schedule.proofs.Gaps.{fits-lt, first, later, before-end, parts}
 use Rattle.clock.specs.Days.{dtai}
-use Rattle.clock.specs.Tally.{tally}
+use Rattle.clock.proofs.Tally.{tally}
 use Rattle.clock.proofs.Tallied.{dtai-tallied}
 use Rattle.clock.specs.Known.{lastDay}
 use Rattle.clock.specs.Question.{dtaiOn, given, refused}

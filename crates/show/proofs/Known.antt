@@ -17,7 +17,7 @@ use Rattle.clock.specs.Days.{firstDtai, dtai}
 use Rattle.clock.specs.Known.{lastDay}
 use Rattle.clock.specs.Question.{dtaiOn}
 use Rattle.clock.specs.Answers.{dtaiAnswer}
-use Rattle.clock.specs.Tally.{tally}
+use Rattle.clock.proofs.Tally.{tally}
 use Rattle.clock.proofs.Tallied.{dtai-tallied}
 use Rattle.clock.proofs.Checks.{pass}
 use Rattle.clock.proofs.Tai.{tally-few}

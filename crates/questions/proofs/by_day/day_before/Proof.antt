@@ -5,6 +5,4 @@ use Rattle.questions.proofs.by_day.day_before.Statement.{statement}
 use Rattle.questions.proofs.by_day.day_before.Tie as tie
 
 pub day-before-spec : {M : Type 1} → statement M
-day-before-spec =
-    tie.close
-    (tie.spec (λ c. search needs) (λ c. (λ h. absurd (omega arith), omega arith)) (λ c. (λ h. omega arith, omega arith)) (λ c. search needs) (λ c. search needs) (λ c. (λ h. omega arith, omega arith)))
+day-before-spec = tie.close (tie.spec (λ c. search needs) (λ c. omega arith) (λ c. omega arith) (λ c. search needs) (λ c. search needs) (λ c. omega arith))

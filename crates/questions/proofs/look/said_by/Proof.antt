@@ -1,13 +1,13 @@
--- `questions::look::survey_by` meets its contract. Assumes nothing.
+-- `questions::look::said_by` meets its contract. Assumes nothing.
 use mathlib.Core.Path.{_≡_, refl}
 use Prim.Native.Nat.{_-_, min}
 use native.Mathlib.Omega.{arith}
 use borrow.Author.Needs.{needs}
 use Rattle.calendar.specs.Calendar.{lastMonth, monthStart}
 use Rattle.calendar.proofs.Laws.{start-from, start-min}
-use Rattle.questions.proofs.Looked.{tallied-same, tallied-next}
-use Rattle.questions.proofs.look.survey_by.Statement.{statement}
-use Rattle.questions.proofs.look.survey_by.Tie as tie
+use Rattle.questions.proofs.Looked.{said-same, said-next}
+use Rattle.questions.proofs.look.said_by.Statement.{statement}
+use Rattle.questions.proofs.look.said_by.Tie as tie
 
 sub-if1 : tie.Need-sub-if1
 sub-if1 c =
@@ -24,7 +24,8 @@ returns c =
     let ending-of = c .ending-of in
     let day : monthStart (args .next) - 1 ≡ args .day = omega (arith, if1 .taken, first-day .ensures, start-min (pre .2)) in (
       refl,
-      λ s month w p l q i. tallied-next s w (args .day) month (args .n) (args .down) (args .next) (args .sign) p l q i day
+      refl,
+      λ s month w p l q i. said-next s w (args .day) month (args .n) (args .down) (args .next) (args .sign) p l q i day
           _ refl refl (ending-of .ensures),
     )
 
@@ -35,12 +36,13 @@ returns-2 c =
     let first-day = c .before .first-day in
     let pre = c .before .before .pre in (
       refl,
-      λ s month w p l q i. tallied-same s w (args .day) month (args .n) (args .down) (args .next) (args .sign) p l q i
+      refl,
+      λ s month w p l q i. said-same s w (args .day) month (args .n) (args .down) (args .next) (args .sign) p l q i
           (λ e. if1 .left (omega (arith, first-day .ensures, start-min (pre .2)))) _ refl refl refl,
     )
 
-pub survey-by-spec : {M : Type 1} → statement M
-survey-by-spec =
+pub said-by-spec : {M : Type 1} → statement M
+said-by-spec =
     tie.close
     (tie.spec
     (λ c. search needs)
