@@ -4,7 +4,7 @@ use mathlib.Core.Bool.{true}
 use mathlib.Core.List.{List}
 use mathlib.Core.Logic.{⊎-elim}
 use mathlib.Core.Path.{_≡_, refl, sym, ap, _∙_}
-use Prim.Native.Nat.{ℕ, _+_, _-_, _*_, _≤_, _<_}
+use Prim.Native.Nat.{ℕ, _+_, _-_, _*_, _≤_, _<_, min}
 use native.Mathlib.Decide.{decLt}
 use native.Mathlib.Nat.{eq-or-lt-of-le}
 use native.Mathlib.Omega.{arith}
@@ -16,12 +16,11 @@ use Rattle.calendar.specs.Calendar.{endDay, monthStart}
 use Rattle.schedule.specs.declared.Sign.the-variants.{Positive, Negative}
 use Rattle.schedule.specs.declared.Sign.{Sign}
 use Rattle.schedule.specs.Schedule.{Leap, Schedule, noLeap, wellFormed}
-use Rattle.schedule.specs.Extends.{sameSign}
 use Rattle.schedule.specs.WordLayout.{expiryWord, wordOfSign, meant}
 use Rattle.schedule.proofs.Cases.{by-bool}
 use Rattle.schedule.proofs.Meant.{count-is, count-room}
-use Rattle.clock.specs.Tally.{count, ofSign}
-use Rattle.clock.proofs.Placed.{of-sign-next, both-signs}
+use Rattle.questions.specs.Private.{oneOf, ofSign}
+use Rattle.questions.proofs.Signs.{of-sign-next, both-signs}
 use Rattle.questions.proofs.LaidOut.{last-meant}
 use Rattle.many.specs.Private.{startAt, upAt, downAt, guessAt, lastOf, far, Starts, Tallies, Prepared, Fenced, Guesses, Small, Ready, Stretch, Within, Clear, Empty}
 
@@ -124,7 +123,7 @@ tallying-none s old c =
     }
 
 -- a negative leap has sign word 1, and a positive one 0
-sign-count : (sign : Sign) → count (sameSign Negative sign) ≡ wordOfSign sign
+sign-count : (sign : Sign) → oneOf Negative sign ≡ wordOfSign sign
 sign-count Positive = refl
 sign-count Negative = refl
 
@@ -219,7 +218,7 @@ tallies-below room p f q =
 small-below : {from to : ℕ} {old new : List ℕ} → Within from to old new → 774 ≤ from → Small old → Small new
 small-below p f q = record { tallies = λ k a b. rw (p .below k (omega arith)) (q .tallies k a b) }
 
-module _ (words : List ℕ) (w : wellFormed (meant words) ≡ true) {expiry last : ℕ} (x : expiry ≡ expiryWord words) (l : (expiry ≤ endDay → last ≡ expiry - 1) × (last < endDay))
+module _ (words : List ℕ) (w : wellFormed (meant words) ≡ true) {expiry last : ℕ} (x : expiry ≡ expiryWord words) (l : last ≡ min (expiry - 1) (endDay - 1))
     (blank : List ℕ) (size : length blank ≡ 1669) (zeros : Clear 0 1669 blank) where
   abbrev dated : List ℕ
   dated = set blank 1668 last
@@ -269,7 +268,7 @@ module _ (words : List ℕ) (w : wellFormed (meant words) ≡ true) {expiry last
           ∙ (g .0 .beyond 1668 (omega arith) ∙ (f .0 .beyond 1668 (omega arith) ∙ getD-set-same blank 1668 last 0 (omega (arith, size))))
 
       pub last-inside : lastOf c < endDay
-      last-inside = omega (arith, last-kept, l .1)
+      last-inside = omega (arith, last-kept)
 
       pub guesses-clear : Clear 774 1668 c
       guesses-clear = clear-beyond (h .0) 774 1668 (omega arith) (starts-clear 774 1668 (omega arith) (omega arith))
@@ -280,12 +279,12 @@ module _ (words : List ℕ) (w : wellFormed (meant words) ≡ true) {expiry last
             record {
               fenced = fenced-below (k .0) (omega arith) tallies-fenced;
               guessed = k .1;
-              inside = omega (arith, last-is, l .1);
+              inside = omega (arith, last-is);
               small = small-below (k .0) (omega arith) (h .2);
             },
             record {
               well = w;
-              is-last = last-is ∙ last-meant words w x (l .0);
+              is-last = last-is ∙ last-meant words w x l;
               starting = starts-below room (k .0) (omega arith) (starts-below room (h .0) (omega arith) (g .1));
               tallied = tallies-below room (k .0) (omega arith) (h .1);
             },

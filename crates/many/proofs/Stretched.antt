@@ -3,28 +3,29 @@
 use mathlib.Core.Bool.{true}
 use mathlib.Core.List.{List}
 use mathlib.Core.Logic.{⊎-elim}
-use mathlib.Core.Path.{_≡_, refl, sym, _∙_}
+use mathlib.Core.Path.{_≡_, refl, sym, ap₂, _∙_}
 use Prim.Native.Nat.{ℕ, zero, suc, _+_, _≤_, _<_, min}
 use native.Mathlib.Decide.{decLt}
 use native.Mathlib.Nat.{not-suc-le-zero, le-of-suc-le-suc, eq-or-lt-of-le}
 use native.Mathlib.Numerals.{add-one}
 use native.Mathlib.Omega.{arith}
-use lib.ListN.{length, getD}
+use lib.IntN.{subℕ}
+use lib.ListN.{length, getD, take}
 use Rattle.calendar.specs.Calendar.{endDay, monthStart}
 use Rattle.calendar.proofs.Laws.{start-lt}
 use Rattle.schedule.specs.declared.Sign.{Sign}
 use Rattle.schedule.specs.declared.Sign.the-variants.{Positive, Negative}
 use Rattle.schedule.specs.Schedule.{Schedule, noLeap, wellFormed}
-use Rattle.schedule.specs.Extends.{sameSign}
 use Rattle.schedule.proofs.Gaps.{parts}
 use Rattle.clock.specs.declared.Ending.the-variants.{Ordinary, Inserted, Deleted}
 use Rattle.questions.specs.declared.by_day.Day.{Day}
-use Rattle.clock.specs.Days.{endingOf, ending}
+use Rattle.clock.specs.Days.{firstDtai, endingOf, ending}
 use Rattle.clock.specs.Known.{lastDay}
-use Rattle.clock.specs.Tally.{count, tally}
+use Rattle.questions.specs.Private.{oneOf, ofSign}
 use Rattle.questions.specs.Said.{ListFor, DayFor}
+use Rattle.questions.proofs.Signs.{of-sign-next, dtai-placed}
 use Rattle.many.specs.Private.{startAt, upAt, downAt, lastOf, Starts, Tallies, Stretch, Prepared}
-use Rattle.clock.proofs.Placed.{leapMonth, in-order, of-sign-next, Placed, tally-by, ending-same, ending-next}
+use Rattle.clock.proofs.Placed.{leapMonth, in-order, Placed, ending-same, ending-next}
 
 -- ---- by the days on which the leaps of a well-formed schedule take effect
 
@@ -74,17 +75,17 @@ module _ (s : Schedule) (w : wellFormed s ≡ true) (prepared : List ℕ) (p : S
 
   -- the negative leaps by then and by the next stretch tell the sign of the leap between
   lowers : Stretch prepared day n → startAt prepared (n + 1) ≡ day + 1 → Tallies s prepared
-      → downAt prepared (n + 1) ≡ downAt prepared n + count (sameSign Negative (getD (s .leaps) n noLeap .sign))
+      → downAt prepared (n + 1) ≡ downAt prepared n + oneOf Negative (getD (s .leaps) n noLeap .sign)
   lowers q e r =
       let k = starts-next q e in
       omega (arith, r .downs n (omega arith), r .downs (n + 1) (omega arith), of-sign-next Negative (s .leaps) n (omega arith))
 
 -- a leap that adds to the negative ones is negative, and another one positive
-lowered : (sign : Sign) (a b : ℕ) → b ≡ a + count (sameSign Negative sign) → a < b → endingOf sign ≡ Deleted
+lowered : (sign : Sign) (a b : ℕ) → b ≡ a + oneOf Negative sign → a < b → endingOf sign ≡ Deleted
 lowered Positive a b e l = absurd (omega arith)
 lowered Negative a b e l = refl
 
-not-lowered : (sign : Sign) (a b : ℕ) → b ≡ a + count (sameSign Negative sign) → b ≤ a → endingOf sign ≡ Inserted
+not-lowered : (sign : Sign) (a b : ℕ) → b ≡ a + oneOf Negative sign → b ≤ a → endingOf sign ≡ Inserted
 not-lowered Positive a b e l = refl
 not-lowered Negative a b e l = absurd (omega arith)
 
@@ -99,7 +100,7 @@ module _ {s : Schedule} {prepared : List ℕ} (p : Prepared s prepared) {day n :
   ends-with : startAt prepared (n + 1) ≡ day + 1 → ending s day ≡ endingOf sign
   ends-with e = steps s (p .well) prepared (p .starting) day n d q e
 
-  fallen : startAt prepared (n + 1) ≡ day + 1 → downAt prepared (n + 1) ≡ downAt prepared n + count (sameSign Negative sign)
+  fallen : startAt prepared (n + 1) ≡ day + 1 → downAt prepared (n + 1) ≡ downAt prepared n + oneOf Negative sign
   fallen e = lowers s (p .well) prepared (p .starting) day n d q e (p .tallied)
 
   pub deleted-in : startAt prepared (n + 1) ≡ day + 1 → downAt prepared n < downAt prepared (n + 1) → Deleted ≡ ending s day
@@ -113,20 +114,18 @@ module _ {s : Schedule} {prepared : List ℕ} (p : Prepared s prepared) {day n :
   day-in-stretch k ew eu ed ee el =
       let here = placed s (p .well) prepared (p .starting) day n d q in
       let room : n ≤ length (s .leaps) = omega (arith, here .room) in
-      let up : k .up ≡ tally Positive (s .leaps) day = eu ∙ p .tallied .ups n room ∙ sym (tally-by s (p .well) here Positive) in
-      let down : k .down ≡ tally Negative (s .leaps) day = ed ∙ p .tallied .downs n room ∙ sym (tally-by s (p .well) here Negative) in
+      let up : k .up ≡ ofSign Positive (take n (s .leaps)) = eu ∙ p .tallied .ups n room in
+      let down : k .down ≡ ofSign Negative (take n (s .leaps)) = ed ∙ p .tallied .downs n room in
       record {
-        well = ew ∙ sym (p .well);
-        last = λ w. el ∙ p .is-last;
-        is = λ w a b. rw (ew ∙ sym (p .well), up, down, ee, el ∙ p .is-last);
+        list = record { is-well = ew ∙ sym (p .well); is-last = λ w. el ∙ p .is-last };
+        is = λ w a b. record { offset = ap₂ (λ (u d : ℕ). subℕ (firstDtai + u) d) up down ∙ sym (dtai-placed s (p .well) here); ends = ee };
       }
 
 -- a day up to the last one is asked about as it is
 pub day-for-near : {s : Schedule} {last day : ℕ} {k : Day} → last ≡ lastDay s → DayFor s (min day last) k → DayFor s day k
 day-for-near {s} {last = last} {day} f g =
     record {
-      well = g .well;
-      last = g .last;
+      list = g .list;
       is = λ w p q. let e : min day last ≡ day = omega (arith, f) in rw e at (g .is w (omega arith) (omega arith));
     }
 

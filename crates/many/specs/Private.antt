@@ -11,7 +11,7 @@ use Rattle.schedule.specs.declared.Sign.{Sign}
 use Rattle.schedule.specs.declared.Sign.the-variants.{Positive, Negative}
 use Rattle.schedule.specs.Schedule.{Schedule, noLeap, wellFormed}
 use Rattle.clock.specs.Known.{lastDay}
-use Rattle.clock.specs.Tally.{ofSign}
+use Rattle.questions.specs.Private.{ofSign}
 use Rattle.clock.specs.Question.{Answer, utcToTai, utcToUts, utsToUtc}
 use Rattle.many.specs.declared.replies.Asked.{Asked}
 use Rattle.many.specs.declared.replies.Asked.the-variants.{Tai, Uts, Micros}

@@ -1,6 +1,6 @@
 -- `many::loops::fill_dtai` meets its contract. Assumes nothing.
 use mathlib.Core.List.{map}
-use mathlib.Core.Path.{_∙_}
+use mathlib.Core.Path.{ap, _∙_}
 use Prim.Native.Nat.{_-_, _≤_, _<_}
 use native.Mathlib.Omega.{arith}
 use lib.IntN.{pos}
@@ -8,6 +8,7 @@ use lib.ListN.{getD}
 use borrow.Author.Needs.{needs}
 use Rattle.schedule.specs.Schedule.{Schedule}
 use Rattle.clock.specs.Answers.{HandsValue, dtaiAnswer, dtaiNumber, dtaiValue}
+use Rattle.questions.proofs.Said.{dtai-said}
 use Rattle.clock.proofs.Numbers.{dtai-told, hands-value}
 use Rattle.many.specs.Private.{Prepared}
 use Rattle.clock.specs.Question.{dtaiOn, number, orZero}
@@ -35,7 +36,7 @@ loop-again c =
     let at = each-one dtaiOn (args .days .now) (loop .i) (omega arith) in
     let value = dtai-value .ensures .1 .kept ∙ dtai-value .ensures .0 in
     let told : (s : Schedule) → Prepared s (args .prepared .now) → HandsValue (pos 0) (dtaiOn s (getD (args .days .now) (loop .i) 0)) _ _ =
-    λ s p. hands-value (pos 0) dtaiAnswer dtaiNumber dtaiValue dtai-told _ (dtai-on .result) (dtai-on .ensures s (found .ensures s p)) _ (dtai-number .ensures) _ value in (
+    λ s p. hands-value (pos 0) dtaiAnswer dtaiNumber dtaiValue dtai-told _ (dtai-on .result) (dtai-on .ensures ∙ ap dtaiAnswer (dtai-said (found .ensures s p))) _ (dtai-number .ensures) _ value in (
       omega arith,
       filled-one (loop .inv .1) (omega arith) at _ (λ s p. told s p .its-number),
       filled-one (loop .inv .2) (omega arith) at _ (λ s p. told s p .its-value),

@@ -1,8 +1,10 @@
 -- `many::replies::reply_utc` meets its contract. Assumes nothing.
 use mathlib.Core.Path.{ap, _∙_}
 use borrow.Author.Needs.{needs}
+use Rattle.clock.specs.Answers.{utcAnswer}
 use Rattle.clock.proofs.Numbers.{hands-utc}
 use Rattle.questions.specs.Said.{nearDay}
+use Rattle.questions.proofs.Said.{utc-said}
 use Rattle.many.proofs.replies.reply_utc.Statement.{statement}
 use Rattle.many.proofs.replies.reply_utc.Tie as tie
 
@@ -15,7 +17,7 @@ returns c s p =
     let utc-number = c .before .before .utc-number in
     let utc-day = c .before .utc-day in
     let utc-micros = c .utc-micros in
-    let answer = utc-on .ensures s (found .ensures s p) (λ w. near-day .ensures ∙ ap (nearDay (args .tai)) (p .is-last)) in
+    let answer = utc-on .ensures ∙ ap utcAnswer (utc-said (args .tai) (found .ensures s p) (λ w. near-day .ensures ∙ ap (nearDay (args .tai)) (p .is-last))) in
     hands-utc _ _ answer _ _ _ (utc-number .ensures) (utc-day .ensures) (utc-micros .ensures)
 
 pub reply-utc-spec : {M : Type 1} → statement M
