@@ -1,33 +1,22 @@
 -- The loops that answer many questions: what they keep from turn to turn, and what the calls then hand over.
 -- Assumes nothing.
-use mathlib.Core.Bool.{true}
+use mathlib.Core.Bool.{false}
 use mathlib.Core.List.{List, [], _∷_, map, zipWith}
 use mathlib.Core.Path.{_≡_, refl, sym, ap, ap₂, _∙_}
-use Prim.Native.Nat.{ℕ, zero, suc, _+_, _-_, _*_, _≤_, _<_, min}
+use Prim.Native.Nat.{ℕ, zero, suc, _+_, _≤_, _<_, min}
 use native.Mathlib.Nat.{not-suc-le-zero, le-of-suc-le-suc}
 use native.Mathlib.Omega.{arith}
-use lib.ListN.{length, getD, take, set, replicate, length-map, length-replicate, replicate-append-replicate}
-use Rattle.calendar.specs.Calendar.{endDay}
-use Rattle.schedule.specs.declared.Sign.the-variants.{Positive, Negative}
+use lib.ListN.{length, getD, take, set, replicate, length-map, length-set, length-replicate, replicate-append-replicate}
 use Rattle.schedule.specs.Schedule.{Schedule, wellFormed}
-use Rattle.schedule.specs.WordLayout.{expiryWord, meant}
+use Rattle.refusals.specs.Refusals.{notWellFormed}
+use Rattle.refusals.proofs.Checks.{stop}
 use Rattle.refusals.specs.Answer.{Answer, refused, number, orZero}
 use Rattle.clock.specs.Question.{Utc}
-use Rattle.clock.specs.Answers.{HandsValue, HandsUtc}
-use Rattle.many.specs.Private.{Starts, Fenced, Tallies, Guesses, Prepared, Ready, Overwritten}
+use Rattle.many.specs.Private.{Prepared, question, Overwritten}
+use Rattle.many.specs.declared.replies.Asked.{Asked}
+use Rattle.many.specs.declared.replies.Asked.the-variants.{Tai, Uts, Micros}
 use Rattle.many.specs.Many.{overwrite, dayOrZero, microsOrZero, HandsMany, HandsManyUtc}
-use Rattle.many.proofs.Preparing.{prepared-list, ready-list}
 use Rattle.many.proofs.Overwriting.{none-written, one-written, part-written, At, at-one, at-two, zip-length}
-
--- ---- a list that is prepared for a schedule
-pub record ReadyFor (s : Schedule) (last : ℕ) (starts ups downs guesses : List ℕ) : Type 0 where
-  pub ready : Ready last starts guesses
-  pub prepared : Prepared s last starts ups downs
-
-pub ready-for : (words : List ℕ) {expiry last : ℕ} {starts ups downs guesses : List ℕ} → wellFormed (meant words) ≡ true → expiry ≡ expiryWord words → (expiry ≤ endDay → last ≡ expiry - 1) × (last < endDay)
-    → Fenced starts × Starts (meant words) starts → Tallies (meant words) Positive ups → Tallies (meant words) Negative downs → Guesses starts guesses
-    → ReadyFor (meant words) last starts ups downs guesses
-ready-for words w x l f u d g = record { ready = ready-list words w x l f u d g; prepared = prepared-list words w x l f u d g }
 
 -- ---- a loop that puts one element in the first n places, at place i
 pub record Repeating {A : Type 0} (v : A) (n : ℕ) (old array : List A) (i : ℕ) : Type 0 where
@@ -46,118 +35,30 @@ module _ {A : Type 0} {v : A} {n : ℕ} {old : List A} where
     pub repeated-all : n ≤ i → Overwritten (replicate n v) old array
     repeated-all h = let e : i ≡ n = omega (arith, p .place) in rw e at (p .repeated)
 
--- ---- a loop that answers the first n questions, at question i
+-- ---- a loop that answers the first n questions, at question i: what it put in one array, a part of each answer
+pub record Filled {A B : Type 0} (part : A → B) (answers : Schedule → List A) (prepared : List ℕ) (old array : List B) (i : ℕ) : Type 0 where
+  pub size : length array ≡ length old
+  pub each : (s : Schedule) → Prepared s prepared → Overwritten (map part (take i (answers s))) old array
 
--- the first n answers stand in their arrays
-pub record Fills {A : Type 0} (none : A) (answers : List (Answer A)) (n : ℕ) (numbers : List ℕ) (values : List A) (numbers′ : List ℕ) (values′ : List A) : Type 0 where
-  pub told : Overwritten (map number (take n answers)) numbers numbers′
-  pub valued : Overwritten (map (orZero none) (take n answers)) values values′
+module _ {A B : Type 0} {part : A → B} {answers : Schedule → List A} {prepared : List ℕ} {old : List B} where
+  pub filled-none : Filled part answers prepared old old 0
+  filled-none = record { size = refl; each = λ s p. none-written old }
 
-pub record FillsUtc (answers : List (Answer Utc)) (n : ℕ) (numbers days micros numbers′ days′ micros′ : List ℕ) : Type 0 where
-  pub told : Overwritten (map number (take n answers)) numbers numbers′
-  pub dated : Overwritten (map dayOrZero (take n answers)) days days′
-  pub timed : Overwritten (map microsOrZero (take n answers)) micros micros′
+  module _ {array : List B} {i : ℕ} (f : Filled part answers prepared old array i) where
+    pub filled-one : i < length old → {answer : Schedule → A} → ((s : Schedule) → At (answers s) i (answer s)) → (v : B) → ((s : Schedule) → Prepared s prepared → v ≡ part (answer s))
+        → Filled part answers prepared old (set array i v) (i + 1)
+    filled-one h at v e = record { size = length-set array i v ∙ f .size; each = λ s p. part-written part (at s) (f .each s p) h v (e s p) }
 
--- so many elements of 8 bytes fit the memory
-abbrev pub Few : ℕ → Type 0
-Few n = n * 8 < 9_223_372_036_854_775_808
+    pub filled-all : {n : ℕ} → i ≤ n → n ≤ i → (s : Schedule) → Prepared s prepared → Overwritten (map part (take n (answers s))) old array
+    filled-all {n} l h s p = let e : i ≡ n = omega arith in rw e at (f .each s p)
 
-pub record Filling {A : Type 0} (none : A) (answers : List (Answer A)) (n : ℕ) (numbers₀ : List ℕ) (values₀ : List A) (numbers : List ℕ) (values : List A) (i : ℕ) : Type 0 where
-  pub place : i ≤ n
-  pub few : Few n
-  pub enough : n ≤ length answers
-  pub numbers-room : n ≤ length numbers₀
-  pub values-room : n ≤ length values₀
-  pub fills : Fills none answers i numbers₀ values₀ numbers values
+-- the answers at question i
+module _ {A : Type 0} where
+  pub each-one : (ask : Schedule → ℕ → A) (xs : List ℕ) (i : ℕ) → i < length xs → (s : Schedule) → At (map (ask s) xs) i (ask s (getD xs i 0))
+  each-one ask xs i h s = at-one (ask s) xs i h
 
-module _ {A : Type 0} {none : A} {answers : List (Answer A)} {n : ℕ} {numbers₀ : List ℕ} {values₀ : List A} where
-  start : Few n → n ≤ length answers → n ≤ length numbers₀ → n ≤ length values₀ → Filling none answers n numbers₀ values₀ numbers₀ values₀ 0
-  start f h l m =
-      record { place = omega arith; few = f; enough = h; numbers-room = l; values-room = m; fills = record { told = none-written numbers₀; valued = none-written values₀ } }
-
-  module _ {numbers : List ℕ} {values : List A} {i : ℕ} (p : Filling none answers n numbers₀ values₀ numbers values i) where
-    turn : i < n → {answer : Answer A} → At answers i answer → {a : ℕ} {v : A} → HandsValue none answer a v
-        → Filling none answers n numbers₀ values₀ (set numbers i a) (set values i v) (i + 1)
-    turn h at {a} {v} r =
-        record {
-          place = omega arith;
-          few = p .few;
-          enough = p .enough;
-          numbers-room = p .numbers-room;
-          values-room = p .values-room;
-          fills = record {
-            told = part-written number at (p .fills .told) (omega (arith, p .numbers-room)) a (r .its-number);
-            valued = part-written (orZero none) at (p .fills .valued) (omega (arith, p .values-room)) v (r .its-value);
-          };
-        }
-
-    -- at the end
-    pub all-answered : n ≤ i → Fills none answers n numbers₀ values₀ numbers values
-    all-answered h = let e : i ≡ n = omega (arith, p .place) in rw e at (p .fills)
-
--- about the elements of one array: the first turn and each next one
-module _ {A : Type 0} {none : A} (ask : ℕ → Answer A) (xs : List ℕ) {n : ℕ} {numbers₀ : List ℕ} {values₀ : List A} where
-  pub start-one : Few (length xs) → n ≡ min (length xs) (min (length numbers₀) (length values₀)) → Filling none (map ask xs) n numbers₀ values₀ numbers₀ values₀ 0
-  start-one f e = start (omega arith) (omega (arith, length-map xs ask)) (omega arith) (omega arith)
-
-  pub turn-one : {numbers : List ℕ} {values : List A} {i : ℕ} → Filling none (map ask xs) n numbers₀ values₀ numbers values i → i < n → {a : ℕ} {v : A} → HandsValue none (ask (getD xs i 0)) a v
-      → Filling none (map ask xs) n numbers₀ values₀ (set numbers i a) (set values i v) (i + 1)
-  turn-one {numbers} {values} {i} p h r = turn p h (at-one ask xs i (omega (arith, p .enough))) r
-
--- and about those of two
-module _ {A : Type 0} {none : A} (ask : ℕ → ℕ → Answer A) (xs ys : List ℕ) {n : ℕ} {numbers₀ : List ℕ} {values₀ : List A} where
-  pub start-two : Few (length xs) → n ≡ min (min (length xs) (length ys)) (min (length numbers₀) (length values₀)) → Filling none (zipWith ask xs ys) n numbers₀ values₀ numbers₀ values₀ 0
-  start-two f e = start (omega arith) (omega (arith, zip-length ask xs ys)) (omega arith) (omega arith)
-
-  pub turn-two : {numbers : List ℕ} {values : List A} {i : ℕ} → Filling none (zipWith ask xs ys) n numbers₀ values₀ numbers values i → i < n → {a : ℕ} {v : A} → HandsValue none (ask (getD xs i 0) (getD ys i 0)) a v
-      → Filling none (zipWith ask xs ys) n numbers₀ values₀ (set numbers i a) (set values i v) (i + 1)
-  turn-two {numbers} {values} {i} p h r = turn p h (at-two ask xs ys i (omega (arith, p .enough))) r
-
--- the same for TAI to UTC
-pub record FillingUtc (answers : List (Answer Utc)) (n : ℕ) (numbers₀ days₀ micros₀ numbers days micros : List ℕ) (i : ℕ) : Type 0 where
-  pub place : i ≤ n
-  pub few : Few n
-  pub enough : n ≤ length answers
-  pub numbers-room : n ≤ length numbers₀
-  pub days-room : n ≤ length days₀
-  pub micros-room : n ≤ length micros₀
-  pub fills : FillsUtc answers i numbers₀ days₀ micros₀ numbers days micros
-
-module _ (ask : ℕ → Answer Utc) (xs : List ℕ) {n : ℕ} {numbers₀ days₀ micros₀ : List ℕ} where
-  pub start-utc : Few (length xs) → n ≡ min (min (length xs) (length numbers₀)) (min (length days₀) (length micros₀)) → FillingUtc (map ask xs) n numbers₀ days₀ micros₀ numbers₀ days₀ micros₀ 0
-  start-utc f e =
-      record {
-        place = omega arith;
-        few = omega arith;
-        enough = omega (arith, length-map xs ask);
-        numbers-room = omega arith;
-        days-room = omega arith;
-        micros-room = omega arith;
-        fills = record { told = none-written numbers₀; dated = none-written days₀; timed = none-written micros₀ };
-      }
-
-  module _ {numbers days micros : List ℕ} {i : ℕ} (p : FillingUtc (map ask xs) n numbers₀ days₀ micros₀ numbers days micros i) where
-    pub turn-utc : i < n → {a d m : ℕ} → HandsUtc (ask (getD xs i 0)) a d m
-        → FillingUtc (map ask xs) n numbers₀ days₀ micros₀ (set numbers i a) (set days i d) (set micros i m) (i + 1)
-    turn-utc h {a} {d} {m} r =
-        let at = at-one ask xs i (omega (arith, p .enough)) in
-        record {
-          place = omega arith;
-          few = p .few;
-          enough = p .enough;
-          numbers-room = p .numbers-room;
-          days-room = p .days-room;
-          micros-room = p .micros-room;
-          fills = record {
-            told = part-written number at (p .fills .told) (omega (arith, p .numbers-room)) a (r .its-number);
-            dated = part-written dayOrZero at (p .fills .dated) (omega (arith, p .days-room)) d (r .its-day);
-            timed = part-written microsOrZero at (p .fills .timed) (omega (arith, p .micros-room)) m (r .its-micros);
-          };
-        }
-
-pub all-utc : {answers : List (Answer Utc)} {n : ℕ} {numbers₀ days₀ micros₀ numbers days micros : List ℕ} {i : ℕ} → FillingUtc answers n numbers₀ days₀ micros₀ numbers days micros i → n ≤ i
-    → FillsUtc answers n numbers₀ days₀ micros₀ numbers days micros
-all-utc {n = n} {i = i} p h = let e : i ≡ n = omega (arith, p .place) in rw e at (p .fills)
+  pub each-two : (ask : Schedule → ℕ → ℕ → A) (xs ys : List ℕ) (i : ℕ) → i < length xs → i < length ys → (s : Schedule) → At (zipWith (ask s) xs ys) i (ask s (getD xs i 0) (getD ys i 0))
+  each-two ask xs ys i h l s = at-two (ask s) xs ys i h l
 
 -- ---- what a call for many hands over, n being the length of the shortest array
 
@@ -183,8 +84,9 @@ refused-all part answers r m e n h {old} p = p .is ∙ ap (λ xs. overwrite xs o
 
 module _ {A : Type 0} {none : A} (ask : ℕ → Answer A) (xs : List ℕ) {n : ℕ} {numbers numbers′ : List ℕ} {values values′ : List A}
     (e : n ≡ min (length xs) (min (length numbers) (length values))) where
-  pub hands-one : Fills none (map ask xs) n numbers values numbers′ values′ → HandsMany none (map ask xs) numbers values n numbers′ values′
-  hands-one p = record { its-count = rw (length-map xs ask) e; its-numbers = p .told .is; its-values = p .valued .is }
+  pub hands-one : Overwritten (map number (take n (map ask xs))) numbers numbers′ × Overwritten (map (orZero none) (take n (map ask xs))) values values′
+      → HandsMany none (map ask xs) numbers values n numbers′ values′
+  hands-one p = record { its-count = rw (length-map xs ask) e; its-numbers = p .0 .is; its-values = p .1 .is }
 
   -- where all are refused
   pub refuses-one : {r : ℕ} → ((x : ℕ) → ask x ≡ refused r) → Overwritten (replicate n r) numbers numbers′ → Overwritten (replicate n none) values values′
@@ -199,8 +101,9 @@ module _ {A : Type 0} {none : A} (ask : ℕ → Answer A) (xs : List ℕ) {n : �
 
 module _ {A : Type 0} {none : A} (ask : ℕ → ℕ → Answer A) (xs ys : List ℕ) {n : ℕ} {numbers numbers′ : List ℕ} {values values′ : List A}
     (e : n ≡ min (min (length xs) (length ys)) (min (length numbers) (length values))) where
-  pub hands-two : Fills none (zipWith ask xs ys) n numbers values numbers′ values′ → HandsMany none (zipWith ask xs ys) numbers values n numbers′ values′
-  hands-two p = record { its-count = rw (zip-length ask xs ys) e; its-numbers = p .told .is; its-values = p .valued .is }
+  pub hands-two : Overwritten (map number (take n (zipWith ask xs ys))) numbers numbers′ × Overwritten (map (orZero none) (take n (zipWith ask xs ys))) values values′
+      → HandsMany none (zipWith ask xs ys) numbers values n numbers′ values′
+  hands-two p = record { its-count = rw (zip-length ask xs ys) e; its-numbers = p .0 .is; its-values = p .1 .is }
 
   pub refuses-two : {r : ℕ} → ((x y : ℕ) → ask x y ≡ refused r) → Overwritten (replicate n r) numbers numbers′ → Overwritten (replicate n none) values values′
       → HandsMany none (zipWith ask xs ys) numbers values n numbers′ values′
@@ -213,10 +116,17 @@ module _ {A : Type 0} {none : A} (ask : ℕ → ℕ → Answer A) (xs ys : List 
         its-values = refused-all (orZero none) (zipWith ask xs ys) r (length (zipWith ask xs ys)) alike n h q;
       }
 
+-- under a list that is not well formed every question is refused
+pub none-asked : (asked : Asked) (s : Schedule) → wellFormed s ≡ false → (x y : ℕ) → question asked s x y ≡ refused notWellFormed
+none-asked Tai s e x y = stop _ notWellFormed e
+none-asked Uts s e x y = stop _ notWellFormed e
+none-asked Micros s e x y = stop _ notWellFormed e
+
 module _ (ask : ℕ → Answer Utc) (xs : List ℕ) {n : ℕ} {numbers numbers′ days days′ micros micros′ : List ℕ}
     (e : n ≡ min (min (length xs) (length numbers)) (min (length days) (length micros))) where
-  pub hands-utcs : FillsUtc (map ask xs) n numbers days micros numbers′ days′ micros′ → HandsManyUtc (map ask xs) numbers days micros n numbers′ days′ micros′
-  hands-utcs p = record { its-count = omega (arith, length-map xs ask); its-numbers = p .told .is; its-days = p .dated .is; its-micros = p .timed .is }
+  pub hands-utcs : Overwritten (map number (take n (map ask xs))) numbers numbers′ × Overwritten (map dayOrZero (take n (map ask xs))) days days′ × Overwritten (map microsOrZero (take n (map ask xs))) micros micros′
+      → HandsManyUtc (map ask xs) numbers days micros n numbers′ days′ micros′
+  hands-utcs p = record { its-count = omega (arith, length-map xs ask); its-numbers = p .0 .is; its-days = p .1 .is; its-micros = p .2 .is }
 
   pub refuses-utcs : {r : ℕ} → ((x : ℕ) → ask x ≡ refused r) → Overwritten (replicate n r) numbers numbers′ → Overwritten (replicate n 0) days days′ → Overwritten (replicate n 0) micros micros′
       → HandsManyUtc (map ask xs) numbers days micros n numbers′ days′ micros′

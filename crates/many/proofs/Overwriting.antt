@@ -66,13 +66,11 @@ module _ {A B : Type 0} (f : A → B) where
       rw (a .is, map-append f (take i xs) (x ∷ []), sym e) (one-written p i l h v)
 
 -- what an answer about the elements i is
-pub at-one : {A : Type 0} (ask : ℕ → A) (xs : List ℕ) (i : ℕ) → i < length (map ask xs) → At (map ask xs) i (ask (getD xs i 0))
-at-one ask xs i h = at (map ask xs) i (ask 0) (ask (getD xs i 0)) h (each-of-one ask xs i 0)
+pub at-one : {A : Type 0} (ask : ℕ → A) (xs : List ℕ) (i : ℕ) → i < length xs → At (map ask xs) i (ask (getD xs i 0))
+at-one ask xs i h = at (map ask xs) i (ask 0) (ask (getD xs i 0)) (rw (length-map xs ask) h) (each-of-one ask xs i 0)
 
-pub at-two : {A : Type 0} (ask : ℕ → ℕ → A) (xs ys : List ℕ) (i : ℕ) → i < length (zipWith ask xs ys) → At (zipWith ask xs ys) i (ask (getD xs i 0) (getD ys i 0))
-at-two ask xs ys i h =
-    let e = zip-length ask xs ys in
-    at (zipWith ask xs ys) i (ask 0 0) (ask (getD xs i 0) (getD ys i 0)) h (each-of-two ask xs ys i 0 0 (omega arith) (omega arith))
+pub at-two : {A : Type 0} (ask : ℕ → ℕ → A) (xs ys : List ℕ) (i : ℕ) → i < length xs → i < length ys → At (zipWith ask xs ys) i (ask (getD xs i 0) (getD ys i 0))
+at-two ask xs ys i h l = at (zipWith ask xs ys) i (ask 0 0) (ask (getD xs i 0) (getD ys i 0)) (omega (arith, zip-length ask xs ys)) (each-of-two ask xs ys i 0 0 h l)
 
 -- ---- an overwritten array
 module _ {A : Type 0} (new old : List A) where

@@ -6,31 +6,20 @@ ghost use lib.IntN.{pos};
 ghost use Rattle.schedule.specs.WordLayout.{meant};
 ghost use Rattle.clock.specs.Question.{dtaiOn, utcToTai, taiToUtc, utcToUts, utsToUtc};
 ghost use Rattle.many.specs.Many.{HandsMany, HandsManyUtc};
+ghost use Rattle.many.specs.Private.{Shortest, question};
 
+mod loops; // loops.rt: arrays filled
 mod replies; // replies.rt: what an instant is replied
 mod stretches; // stretches.rt: the list prepared
 
-use crate::replies::clear;
-use crate::replies::refuse;
-use crate::replies::refuse_dtai;
-use crate::replies::reply_micros;
-use crate::replies::reply_tai;
-use crate::replies::reply_uts;
-use crate::stretches::found;
-use crate::stretches::guesses_of;
-use crate::stretches::starts_of;
-use crate::stretches::tallies_of;
-use clock::answers::dtai_number;
-use clock::answers::dtai_value;
-use clock::answers::utc_day;
-use clock::answers::utc_micros;
-use clock::answers::utc_number;
-use questions::by_day::day_before;
-use questions::by_day::dtai_on;
-use questions::by_day::near_day;
-use questions::by_day::utc_on;
-use schedule::Sign;
-use schedule::expiry_of;
+use crate::loops::fill;
+use crate::loops::fill_dtai;
+use crate::loops::fill_utc;
+use crate::loops::refuse;
+use crate::loops::refuse_dtai;
+use crate::loops::refuse_utc;
+use crate::replies::Asked;
+use crate::stretches::prepare;
 
 fn shorter(a: usize, b: usize) -> usize
     ensures { λ r. ⌜ r ≡ min a b ⌝ }
@@ -39,6 +28,13 @@ fn shorter(a: usize, b: usize) -> usize
         return a;
     }
     b
+}
+
+// The shortest of four lengths.
+fn shortest(a: usize, b: usize, c: usize, d: usize) -> usize
+    ensures { λ r. ⌜ Shortest a b c d r ⌝ }
+{
+    shorter(shorter(a, b), shorter(c, d))
 }
 
 // DTAI for each date.
@@ -50,19 +46,31 @@ pub fn dtai(words: &[u32; 514], days: &[u64], numbers: &mut [u8], dtais: &mut [i
         refuse_dtai(numbers, dtais, n);
         return n as u64;
     }
-    let last = day_before(expiry_of(words));
-    let starts = starts_of(words);
-    let ups = tallies_of(words, Sign::Positive);
-    let downs = tallies_of(words, Sign::Negative);
-    let guesses = guesses_of(&starts, last);
-    let mut i: usize = 0;
-    while i < n {
-        let day = days[i];
-        let a = dtai_on(found(&starts, &ups, &downs, &guesses, last, day), day);
-        numbers[i] = dtai_number(a);
-        dtais[i] = dtai_value(a);
-        i += 1;
+    let mut prepared = [0u32; 1669];
+    prepare(words, &mut prepared);
+    fill_dtai(&prepared, days, numbers, dtais, n);
+    n as u64
+}
+
+// One of three questions about each instant.
+fn answer(
+    asked: Asked,
+    words: &[u32; 514],
+    days: &[u64],
+    times: &[u64],
+    numbers: &mut [u8],
+    values: &mut [u64],
+) -> u64
+    ensures { λ n. ⌜ HandsMany 0 (zipWith (question asked (meant (now (words .entry)))) (now (days .entry)) (now (times .entry))) (now (numbers .entry)) (now (values .entry)) n (now (numbers .exit)) (now (values .exit)) ⌝ }
+{
+    let n = shortest(days.len(), times.len(), numbers.len(), values.len());
+    if !schedule::is_list(words) {
+        refuse(numbers, values, n);
+        return n as u64;
     }
+    let mut prepared = [0u32; 1669];
+    prepare(words, &mut prepared);
+    fill(asked, &prepared, days, times, numbers, values, n);
     n as u64
 }
 
@@ -76,27 +84,7 @@ pub fn utc_to_tai(
 ) -> u64
     ensures { λ n. ⌜ HandsMany 0 (zipWith (utcToTai (meant (now (words .entry)))) (now (days .entry)) (now (micros .entry))) (now (numbers .entry)) (now (tais .entry)) n (now (numbers .exit)) (now (tais .exit)) ⌝ }
 {
-    let n = shorter(
-        shorter(days.len(), micros.len()),
-        shorter(numbers.len(), tais.len()),
-    );
-    if !schedule::is_list(words) {
-        refuse(numbers, tais, n);
-        return n as u64;
-    }
-    let last = day_before(expiry_of(words));
-    let starts = starts_of(words);
-    let ups = tallies_of(words, Sign::Positive);
-    let downs = tallies_of(words, Sign::Negative);
-    let guesses = guesses_of(&starts, last);
-    let mut i: usize = 0;
-    while i < n {
-        let r = reply_tai(&starts, &ups, &downs, &guesses, last, days[i], micros[i]);
-        numbers[i] = r.number;
-        tais[i] = r.value;
-        i += 1;
-    }
-    n as u64
+    answer(Asked::Tai, words, days, micros, numbers, tais)
 }
 
 // UTC to smoothed time for each instant.
@@ -109,27 +97,7 @@ pub fn utc_to_uts(
 ) -> u64
     ensures { λ n. ⌜ HandsMany 0 (zipWith (utcToUts (meant (now (words .entry)))) (now (days .entry)) (now (micros .entry))) (now (numbers .entry)) (now (nanos .entry)) n (now (numbers .exit)) (now (nanos .exit)) ⌝ }
 {
-    let n = shorter(
-        shorter(days.len(), micros.len()),
-        shorter(numbers.len(), nanos.len()),
-    );
-    if !schedule::is_list(words) {
-        refuse(numbers, nanos, n);
-        return n as u64;
-    }
-    let last = day_before(expiry_of(words));
-    let starts = starts_of(words);
-    let ups = tallies_of(words, Sign::Positive);
-    let downs = tallies_of(words, Sign::Negative);
-    let guesses = guesses_of(&starts, last);
-    let mut i: usize = 0;
-    while i < n {
-        let r = reply_uts(&starts, &ups, &downs, &guesses, last, days[i], micros[i]);
-        numbers[i] = r.number;
-        nanos[i] = r.value;
-        i += 1;
-    }
-    n as u64
+    answer(Asked::Uts, words, days, micros, numbers, nanos)
 }
 
 // Smoothed time to UTC for each instant.
@@ -142,27 +110,7 @@ pub fn uts_to_utc(
 ) -> u64
     ensures { λ n. ⌜ HandsMany 0 (zipWith (utsToUtc (meant (now (words .entry)))) (now (days .entry)) (now (nanos .entry))) (now (numbers .entry)) (now (micros .entry)) n (now (numbers .exit)) (now (micros .exit)) ⌝ }
 {
-    let n = shorter(
-        shorter(days.len(), nanos.len()),
-        shorter(numbers.len(), micros.len()),
-    );
-    if !schedule::is_list(words) {
-        refuse(numbers, micros, n);
-        return n as u64;
-    }
-    let last = day_before(expiry_of(words));
-    let starts = starts_of(words);
-    let ups = tallies_of(words, Sign::Positive);
-    let downs = tallies_of(words, Sign::Negative);
-    let guesses = guesses_of(&starts, last);
-    let mut i: usize = 0;
-    while i < n {
-        let r = reply_micros(&starts, &ups, &downs, &guesses, last, days[i], nanos[i]);
-        numbers[i] = r.number;
-        micros[i] = r.value;
-        i += 1;
-    }
-    n as u64
+    answer(Asked::Micros, words, days, nanos, numbers, micros)
 }
 
 // TAI to UTC for each TAI.
@@ -175,29 +123,13 @@ pub fn tai_to_utc(
 ) -> u64
     ensures { λ n. ⌜ HandsManyUtc (map (taiToUtc (meant (now (words .entry)))) (now (tais .entry))) (now (numbers .entry)) (now (days .entry)) (now (micros .entry)) n (now (numbers .exit)) (now (days .exit)) (now (micros .exit)) ⌝ }
 {
-    let n = shorter(
-        shorter(tais.len(), numbers.len()),
-        shorter(days.len(), micros.len()),
-    );
+    let n = shortest(tais.len(), numbers.len(), days.len(), micros.len());
     if !schedule::is_list(words) {
-        refuse(numbers, days, n);
-        clear(micros, n);
+        refuse_utc(numbers, days, micros, n);
         return n as u64;
     }
-    let last = day_before(expiry_of(words));
-    let starts = starts_of(words);
-    let ups = tallies_of(words, Sign::Positive);
-    let downs = tallies_of(words, Sign::Negative);
-    let guesses = guesses_of(&starts, last);
-    let mut i: usize = 0;
-    while i < n {
-        let x = tais[i];
-        let near = near_day(x, last);
-        let a = utc_on(found(&starts, &ups, &downs, &guesses, last, near), near, x);
-        numbers[i] = utc_number(a);
-        days[i] = utc_day(a);
-        micros[i] = utc_micros(a);
-        i += 1;
-    }
+    let mut prepared = [0u32; 1669];
+    prepare(words, &mut prepared);
+    fill_utc(&prepared, tais, numbers, days, micros, n);
     n as u64
 }

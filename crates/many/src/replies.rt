@@ -1,12 +1,9 @@
-// What an instant is replied under a prepared list, as a single question would be answered; and every instant under words that are no list.
-ghost use Prim.Native.Nat.{_≤_};
-ghost use lib.IntN.{pos};
-ghost use lib.ListN.{length, replicate};
+// What an instant is replied under a prepared list, as a single question would be answered.
 ghost use Rattle.schedule.specs.Schedule.{Schedule};
-ghost use Rattle.clock.specs.Question.{utcToTai, utcToUts, utsToUtc};
-ghost use Rattle.clock.specs.Answers.{HandsValue};
-ghost use Rattle.refusals.specs.Refusals.{notWellFormed};
-ghost use Rattle.many.specs.Private.{Prepared, Ready, Overwritten};
+ghost use Rattle.clock.specs.Question.{utcToTai, taiToUtc, utcToUts, utsToUtc};
+ghost use Rattle.clock.specs.Answers.{HandsValue, HandsUtc};
+ghost use Rattle.many.specs.Private.{Prepared, Ready, question};
+use crate::stretches::LAST;
 use crate::stretches::found;
 use clock::NANOS_CUTOFF;
 use clock::UTS_CUTOFF;
@@ -14,14 +11,18 @@ use clock::answers::micros_number;
 use clock::answers::micros_value;
 use clock::answers::tai_number;
 use clock::answers::tai_value;
+use clock::answers::utc_day;
+use clock::answers::utc_micros;
+use clock::answers::utc_number;
 use clock::answers::uts_number;
 use clock::answers::uts_value;
 use questions::by_day::early_micros;
 use questions::by_day::early_uts;
 use questions::by_day::micros_on;
+use questions::by_day::near_day;
 use questions::by_day::tai_on;
+use questions::by_day::utc_on;
 use questions::by_day::uts_on;
-use refusals::NOT_WELL_FORMED;
 
 // An answer's number, and its value or 0.
 pub(crate) struct Reply {
@@ -29,20 +30,40 @@ pub(crate) struct Reply {
     pub(crate) value: u64,
 }
 
-// UTC to TAI.
-pub(crate) fn reply_tai(
-    starts: &[u64; 258],
-    ups: &[u16; 258],
-    downs: &[u16; 258],
-    guesses: &[u16; 894],
-    last: u64,
-    day: u64,
-    micros: u64,
-) -> Reply
-    requires { ⌜ Ready last (now starts) (now guesses) ⌝ }
-    ensures { λ r. ⌜ ((s : Schedule) → Prepared s last (now (starts .entry)) (now (ups .entry)) (now (downs .entry)) → HandsValue 0 (utcToTai s day micros) (r .number) (r .value)) ⌝ }
+// The same where the value is a UTC.
+pub(crate) struct UtcReply {
+    pub(crate) number: u8,
+    pub(crate) day: u64,
+    pub(crate) micros: u64,
+}
+
+// The three questions about a day and a time of it that are answered with one number.
+pub(crate) enum Asked {
+    Tai,
+    Uts,
+    Micros,
+}
+
+// TAI to UTC.
+pub(crate) fn reply_utc(prepared: &[u32; 1669], tai: u64) -> UtcReply
+    requires { ⌜ Ready (now prepared) ⌝ }
+    ensures { λ r. ⌜ ((s : Schedule) → Prepared s (now (prepared .entry)) → HandsUtc (taiToUtc s tai) (r .number) (r .day) (r .micros)) ⌝ }
 {
-    let a = tai_on(found(starts, ups, downs, guesses, last, day), day, micros);
+    let near = near_day(tai, prepared[LAST] as u64);
+    let a = utc_on(found(prepared, near), near, tai);
+    UtcReply {
+        number: utc_number(a),
+        day: utc_day(a),
+        micros: utc_micros(a),
+    }
+}
+
+// UTC to TAI.
+fn reply_tai(prepared: &[u32; 1669], day: u64, micros: u64) -> Reply
+    requires { ⌜ Ready (now prepared) ⌝ }
+    ensures { λ r. ⌜ ((s : Schedule) → Prepared s (now (prepared .entry)) → HandsValue 0 (utcToTai s day micros) (r .number) (r .value)) ⌝ }
+{
+    let a = tai_on(found(prepared, day), day, micros);
     Reply {
         number: tai_number(a),
         value: tai_value(a),
@@ -50,26 +71,18 @@ pub(crate) fn reply_tai(
 }
 
 // UTC to smoothed time. How the day ends is looked for only where it matters.
-pub(crate) fn reply_uts(
-    starts: &[u64; 258],
-    ups: &[u16; 258],
-    downs: &[u16; 258],
-    guesses: &[u16; 894],
-    last: u64,
-    day: u64,
-    micros: u64,
-) -> Reply
-    requires { ⌜ Ready last (now starts) (now guesses) ⌝ }
-    ensures { λ r. ⌜ ((s : Schedule) → Prepared s last (now (starts .entry)) (now (ups .entry)) (now (downs .entry)) → HandsValue 0 (utcToUts s day micros) (r .number) (r .value)) ⌝ }
+fn reply_uts(prepared: &[u32; 1669], day: u64, micros: u64) -> Reply
+    requires { ⌜ Ready (now prepared) ⌝ }
+    ensures { λ r. ⌜ ((s : Schedule) → Prepared s (now (prepared .entry)) → HandsValue 0 (utcToUts s day micros) (r .number) (r .value)) ⌝ }
 {
     if micros < UTS_CUTOFF {
-        let a = early_uts(last, day, micros);
+        let a = early_uts(prepared[LAST] as u64, day, micros);
         return Reply {
             number: uts_number(a),
             value: uts_value(a),
         };
     }
-    let a = uts_on(found(starts, ups, downs, guesses, last, day), day, micros);
+    let a = uts_on(found(prepared, day), day, micros);
     Reply {
         number: uts_number(a),
         value: uts_value(a),
@@ -77,66 +90,32 @@ pub(crate) fn reply_uts(
 }
 
 // Smoothed time to UTC, likewise.
-pub(crate) fn reply_micros(
-    starts: &[u64; 258],
-    ups: &[u16; 258],
-    downs: &[u16; 258],
-    guesses: &[u16; 894],
-    last: u64,
-    day: u64,
-    nanos: u64,
-) -> Reply
-    requires { ⌜ Ready last (now starts) (now guesses) ⌝ }
-    ensures { λ r. ⌜ ((s : Schedule) → Prepared s last (now (starts .entry)) (now (ups .entry)) (now (downs .entry)) → HandsValue 0 (utsToUtc s day nanos) (r .number) (r .value)) ⌝ }
+fn reply_micros(prepared: &[u32; 1669], day: u64, nanos: u64) -> Reply
+    requires { ⌜ Ready (now prepared) ⌝ }
+    ensures { λ r. ⌜ ((s : Schedule) → Prepared s (now (prepared .entry)) → HandsValue 0 (utsToUtc s day nanos) (r .number) (r .value)) ⌝ }
 {
     if nanos < NANOS_CUTOFF {
-        let a = early_micros(last, day, nanos);
+        let a = early_micros(prepared[LAST] as u64, day, nanos);
         return Reply {
             number: micros_number(a),
             value: micros_value(a),
         };
     }
-    let a = micros_on(found(starts, ups, downs, guesses, last, day), day, nanos);
+    let a = micros_on(found(prepared, day), day, nanos);
     Reply {
         number: micros_number(a),
         value: micros_value(a),
     }
 }
 
-// The first n numbers and values, under words that are no list.
-pub(crate) fn refuse(numbers: &mut [u8], values: &mut [u64], n: usize)
-    requires { ⌜ (n ≤ length (now numbers)) × (n ≤ length (now values)) ⌝ }
-    ensures { λ _. ⌜ Overwritten (replicate n notWellFormed) (now (numbers .entry)) (now (numbers .exit)) × Overwritten (replicate n 0) (now (values .entry)) (now (values .exit)) ⌝ }
+// What is asked.
+pub(crate) fn reply_to(asked: Asked, prepared: &[u32; 1669], day: u64, time: u64) -> Reply
+    requires { ⌜ Ready (now prepared) ⌝ }
+    ensures { λ r. ⌜ ((s : Schedule) → Prepared s (now (prepared .entry)) → HandsValue 0 (question asked s day time) (r .number) (r .value)) ⌝ }
 {
-    let mut i: usize = 0;
-    while i < n {
-        numbers[i] = NOT_WELL_FORMED;
-        values[i] = 0;
-        i += 1;
-    }
-}
-
-// The same where the values are DTAI.
-pub(crate) fn refuse_dtai(numbers: &mut [u8], values: &mut [i32], n: usize)
-    requires { ⌜ (n ≤ length (now numbers)) × (n ≤ length (now values)) ⌝ }
-    ensures { λ _. ⌜ Overwritten (replicate n notWellFormed) (now (numbers .entry)) (now (numbers .exit)) × Overwritten (replicate n (pos 0)) (now (values .entry)) (now (values .exit)) ⌝ }
-{
-    let mut i: usize = 0;
-    while i < n {
-        numbers[i] = NOT_WELL_FORMED;
-        values[i] = 0;
-        i += 1;
-    }
-}
-
-// The first n values more.
-pub(crate) fn clear(values: &mut [u64], n: usize)
-    requires { ⌜ n ≤ length (now values) ⌝ }
-    ensures { λ _. ⌜ Overwritten (replicate n 0) (now (values .entry)) (now (values .exit)) ⌝ }
-{
-    let mut i: usize = 0;
-    while i < n {
-        values[i] = 0;
-        i += 1;
+    match asked {
+        Asked::Tai => reply_tai(prepared, day, time),
+        Asked::Uts => reply_uts(prepared, day, time),
+        Asked::Micros => reply_micros(prepared, day, time),
     }
 }

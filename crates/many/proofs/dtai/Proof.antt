@@ -1,106 +1,47 @@
 -- `many::dtai` meets its contract. Assumes nothing.
-use mathlib.Core.List.{map}
-use mathlib.Core.Path.{_≡_, _∙_}
-use Prim.Native.Nat.{_-_, min}
 use native.Mathlib.Omega.{arith}
-use lib.IntN.{pos}
-use lib.ListN.{length}
 use borrow.Author.Needs.{needs}
 use Rattle.refusals.specs.Refusals.{notWellFormed}
 use Rattle.schedule.specs.WordLayout.{meant}
 use Rattle.clock.specs.Question.{dtaiOn}
-use Rattle.clock.specs.Answers.{dtaiAnswer, dtaiNumber, dtaiValue}
-use Rattle.refusals.proofs.Checks.{passed, failed, stop}
-use Rattle.clock.proofs.Numbers.{dtai-told, hands-value}
-use Rattle.many.proofs.Answering.{ReadyFor, ready-for, Filling, start-one, turn-one, all-answered, hands-one, refuses-one}
+use Rattle.refusals.proofs.Checks.{stop}
+use Rattle.many.proofs.Answering.{hands-one, refuses-one}
+use Rattle.refusals.proofs.Checks.{passed, failed}
+use Rattle.many.proofs.Preparing.{all-clear}
 use Rattle.many.proofs.dtai.Statement.{statement}
 use Rattle.many.proofs.dtai.Tie as tie
 
-abbrev Inv-loop : tie.InvT-loop
-Inv-loop words days numbers₀ dtais₀ n last starts ups downs guesses i₀ numbers dtais i =
-    ReadyFor (meant words) last starts ups downs guesses × Filling (pos 0) (map (dtaiOn (meant words)) days) n numbers₀ dtais₀ numbers dtais i
-
-abbrev μ-loop : tie.MeasureT-loop
-μ-loop words days numbers₀ dtais₀ n last starts ups downs guesses i₀ numbers dtais i = n - i
-
 -- words that are no list
-returns : tie.Need-returns Inv-loop μ-loop
+returns : tie.Need-returns
 returns c =
     let args = c .before .before .before .before .before .before .before .before .before .before .before .before .args in
     let is-list = c .before .before .before .before .before .before .before .is-list in
     let if1 = c .before .before .before .before .before .before .if1 in
     let refuse-dtai = c .before .before .before .refuse-dtai in
-    refuses-one (dtaiOn (meant (args .words .now))) (args .days .now) (omega arith) (λ x. stop _ notWellFormed (failed (is-list .ensures) (if1 .taken))) (refuse-dtai .ensures .0)
-    (refuse-dtai .ensures .1)
+    refuses-one (dtaiOn (meant (args .words .now))) (args .days .now) (omega arith) (λ x. stop _ notWellFormed (failed (is-list .ensures) (if1 .taken))) (refuse-dtai .ensures .0) (refuse-dtai .ensures .1)
 
-loop-holds : tie.Need-loop-holds Inv-loop μ-loop
-loop-holds c =
-    let shorter2 = c .before .before .before .before .before .before .before .before .before .shorter2 in
-    let args = c .before .before .before .before .before .before .before .before .before .before .before .before .before .args in
-    let shorter = c .before .before .before .before .before .before .before .before .before .before .shorter in
-    let is-list = c .before .before .before .before .before .before .before .before .is-list in
-    let if1 = c .before .before .before .before .before .before .before .if1 in
-    let expiry-of = c .before .before .before .before .before .before .expiry-of in
-    let day-before = c .before .before .before .before .before .day-before in
-    let starts-of = c .before .before .before .before .starts-of in
-    let tallies-of = c .before .before .before .tallies-of in
-    let tallies-of2 = c .before .before .tallies-of2 in
-    let guesses-of = c .guesses-of in
-    let good = c .before .before .before .before .before .before .before .before .before .before .before .before .before .good in
-    let few : shorter2 .result ≡ min (length (args .days .now)) (min (length (args .numbers .now)) (length (args .dtais .now))) =
-    omega (arith, shorter .ensures, shorter2 .ensures) in
-    (ready-for (args .words .now) (passed (is-list .ensures) (if1 .left)) (expiry-of .ensures) (day-before .ensures) (starts-of .ensures) (tallies-of .ensures) (tallies-of2 .ensures) (guesses-of .ensures), start-one (dtaiOn (meant (args .words .now))) (args .days .now) (good .1 .0 .1) few)
+prepare-requires : tie.Need-prepare-requires
+prepare-requires c κs =
+    let is-list = c .before .before .is-list in
+    let if1 = c .before .if1 in
+    (passed (is-list .ensures) (if1 .left), all-clear .0, all-clear .1)
 
-starts-of-requires : tie.Need-starts-of-requires Inv-loop μ-loop
-starts-of-requires c κs =
-    let is-list = c .before .before .before .is-list in
-    let if1 = c .before .before .if1 in
-    passed (is-list .ensures) (if1 .left)
+fill-dtai-requires : tie.Need-fill-dtai-requires
+fill-dtai-requires c κs =
+    let prepare = c .before .before .before .prepare in
+    (prepare .ensures .0, omega arith, omega arith, omega arith)
 
-tallies-of-requires : tie.Need-tallies-of-requires Inv-loop μ-loop
-tallies-of-requires c κs =
-    let is-list = c .before .before .before .before .is-list in
-    let if1 = c .before .before .before .if1 in
-    passed (is-list .ensures) (if1 .left)
-
-tallies-of-requires-2 : tie.Need-tallies-of-requires-2 Inv-loop μ-loop
-tallies-of-requires-2 c κs =
-    let is-list = c .before .before .before .before .before .is-list in
-    let if1 = c .before .before .before .before .if1 in
-    passed (is-list .ensures) (if1 .left)
-
-found-requires : tie.Need-found-requires Inv-loop μ-loop
-found-requires c κs =
-    let loop = c .before .before .before .before .before .before .loop in
-    loop .inv .0 .ready
-
-loop-again : tie.Need-loop-again Inv-loop μ-loop
-loop-again c =
-    let args = c .before .before .before .before .before .before .before .before .before .before .before .before .before .before .before .before .before .before .before .before .before .before .before .before .args in
-    let dtai-value = c .dtai-value in
-    let dtai-on = c .before .before .dtai-on in
-    let found = c .before .before .before .found in
-    let loop = c .before .before .before .before .before .before .before .before .before .before .loop in
-    let loop-test = c .before .before .before .before .before .before .before .before .before .loop-test in
-    let dtai-number = c .before .dtai-number in
-    let s = meant (args .words .now) in
-    let value = dtai-value .ensures .1 .kept ∙ dtai-value .ensures .0 in
-    let answer = dtai-on .ensures s (found .ensures s (loop .inv .0 .prepared)) in
-    (loop .inv .0, turn-one (dtaiOn s) (args .days .now) (loop .inv .1) (loop-test .taken) (hands-value (pos 0) dtaiAnswer dtaiNumber dtaiValue dtai-told _ (dtai-on .result) answer _ (dtai-number .ensures) _ value))
-
-returns-2 : tie.Need-returns-2 Inv-loop μ-loop
+returns-2 : tie.Need-returns-2
 returns-2 c =
     let args = c .before .before .before .before .before .before .before .before .before .before .before .before .before .before .before .args in
-    let loop = c .before .loop in
-    let loop-test = c .loop-test in
-    hands-one (dtaiOn (meant (args .words .now))) (args .days .now) (omega arith) (all-answered (loop .inv .1) (loop-test .left))
+    let fill-dtai = c .before .before .before .fill-dtai in
+    let prepare = c .before .before .before .before .before .before .before .prepare in
+    hands-one (dtaiOn (meant (args .words .now))) (args .days .now) (omega arith) (fill-dtai .ensures _ (prepare .ensures .1))
 
 pub dtai-spec : {M : Type 1} → statement M
 dtai-spec =
     tie.close
     (tie.spec
-    Inv-loop
-    μ-loop
     (λ c κs. search needs)
     (λ c κs. search needs)
     (λ c κs. search needs)
@@ -108,25 +49,8 @@ dtai-spec =
     (λ c. search needs)
     (λ c. search needs)
     returns
-    (λ c κs. search needs)
-    (λ c κs. search needs)
-    starts-of-requires
-    tallies-of-requires
-    tallies-of-requires-2
-    (λ c κs. search needs)
-    loop-holds
-    (λ c. omega arith)
-    (λ c. omega arith)
-    found-requires
-    (λ c κs. search needs)
-    (λ c κs. search needs)
-    (λ c. omega arith)
-    (λ c κs. search needs)
-    (λ c. omega arith)
-    (λ c. omega arith)
-    (λ c. omega arith)
-    (λ c. omega arith)
-    loop-again
+    prepare-requires
+    fill-dtai-requires
     (λ c. search needs)
     (λ c. search needs)
     returns-2)

@@ -1,12 +1,12 @@
--- `many::replies::refuse_dtai` meets its contract. Assumes nothing.
+-- `many::loops::refuse_dtai` meets its contract. Assumes nothing.
 use Prim.Native.Nat.{_-_}
 use lib.IntN.{pos}
 use native.Mathlib.Omega.{arith}
 use borrow.Author.Needs.{needs}
 use Rattle.refusals.specs.Refusals.{notWellFormed}
 use Rattle.many.proofs.Answering.{Repeating, repeated-none, repeated-one, repeated-all}
-use Rattle.many.proofs.replies.refuse_dtai.Statement.{statement}
-use Rattle.many.proofs.replies.refuse_dtai.Tie as tie
+use Rattle.many.proofs.loops.refuse_dtai.Statement.{statement}
+use Rattle.many.proofs.loops.refuse_dtai.Tie as tie
 
 abbrev Inv-loop : tie.InvT-loop
 Inv-loop numbers₀ values₀ n i₀ numbers values i = Repeating notWellFormed n numbers₀ numbers i × Repeating (pos 0) n values₀ values i

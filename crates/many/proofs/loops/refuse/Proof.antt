@@ -1,11 +1,11 @@
--- `many::replies::refuse` meets its contract. Assumes nothing.
+-- `many::loops::refuse` meets its contract. Assumes nothing.
 use Prim.Native.Nat.{_-_}
 use native.Mathlib.Omega.{arith}
 use borrow.Author.Needs.{needs}
 use Rattle.refusals.specs.Refusals.{notWellFormed}
 use Rattle.many.proofs.Answering.{Repeating, repeated-none, repeated-one, repeated-all}
-use Rattle.many.proofs.replies.refuse.Statement.{statement}
-use Rattle.many.proofs.replies.refuse.Tie as tie
+use Rattle.many.proofs.loops.refuse.Statement.{statement}
+use Rattle.many.proofs.loops.refuse.Tie as tie
 
 abbrev Inv-loop : tie.InvT-loop
 Inv-loop numbers₀ values₀ n i₀ numbers values i = Repeating notWellFormed n numbers₀ numbers i × Repeating 0 n values₀ values i
