@@ -173,6 +173,20 @@ fn on_day(day: u64, t: u64, last: u64) -> UtcAnswer
     UtcAnswer::Refused(NOT_KNOWN)
 }
 
+// The instant t microseconds after a day's start, by the day's length. It stands apart, so that `utc_on` is small enough for the compiler to put
+// it into the loop of many.
+fn late_from_start(k: Day, day: u64, t: u64) -> UtcAnswer
+    requires { ⌜ day < endDay ⌝ }
+    ensures { λ r. ⌜ r ≡ utcAnswer (fromStart k day t) ⌝ }
+{
+    let w = k.ending;
+    let length = day_length(w);
+    if length <= t {
+        return on_day(day + 1, t - length, k.last);
+    }
+    on_day(day, t, k.last)
+}
+
 // The instant t microseconds after a day's start: it lies on that day, or on the next.
 fn from_start(k: Day, day: u64, t: u64) -> UtcAnswer
     requires { ⌜ (day ≤ k .last) × (day < endDay) ⌝ }
@@ -182,12 +196,7 @@ fn from_start(k: Day, day: u64, t: u64) -> UtcAnswer
     if t < SHORT_DAY {
         return UtcAnswer::Given(day, UtcMicros(t));
     }
-    let w = k.ending;
-    let length = day_length(w);
-    if length <= t {
-        return on_day(day + 1, t - length, k.last);
-    }
-    on_day(day, t, k.last)
+    late_from_start(k, day, t)
 }
 
 // TAI to UTC, by the day near it: the one instant whose TAI it is. It lies on that day or on the next.
