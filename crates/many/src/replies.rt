@@ -76,7 +76,7 @@ fn reply_uts(prepared: &[u32; 1669], day: u64, micros: u64) -> Reply
     ensures { λ r. ⌜ ((s : Schedule) → Prepared s (now (prepared .entry)) → HandsValue 0 (utcToUts s day micros) (r .number) (r .value)) ⌝ }
 {
     if micros < UTS_CUTOFF {
-        let a = early_uts(prepared[LAST] as u64, day, micros);
+        let a = early_uts(true, prepared[LAST] as u64, day, micros);
         return Reply {
             number: uts_number(a),
             value: uts_value(a),
@@ -95,7 +95,7 @@ fn reply_micros(prepared: &[u32; 1669], day: u64, nanos: u64) -> Reply
     ensures { λ r. ⌜ ((s : Schedule) → Prepared s (now (prepared .entry)) → HandsValue 0 (utsToUtc s day nanos) (r .number) (r .value)) ⌝ }
 {
     if nanos < NANOS_CUTOFF {
-        let a = early_micros(prepared[LAST] as u64, day, nanos);
+        let a = early_micros(true, prepared[LAST] as u64, day, nanos);
         return Reply {
             number: micros_number(a),
             value: micros_value(a),

@@ -74,13 +74,13 @@ module _ {s : Schedule} {day : ℕ} {k : Day} (f : DayFor s day k) where
   micros-said u = same-instant (f .list) nanosPerDay nanosCutoff day u _ _ (λ w p q. ap (λ (e : Ending). given (utcOf e u)) (f .is w p q .ends))
 
 -- before the last 1,001 s of a day it does not matter how the day ends
-module _ {s : Schedule} {last : ℕ} (f : ListFor s true last) (day : ℕ) where
-  pub early-uts-said : (t : ℕ) → t < utsCutoff → earlyUts last day t ≡ utcToUts s day t
+module _ {s : Schedule} {well : Bool} {last : ℕ} (f : ListFor s well last) (day : ℕ) where
+  pub early-uts-said : (t : ℕ) → t < utsCutoff → earlyUts well last day t ≡ utcToUts s day t
   early-uts-said t h =
       same-date f day (1000 * min t utsCutoff) (uts (ending s day) t) (λ _ _ _. omega arith ∙ sym (uts-plain (ending s day) t (omega arith)))
       ∙ sym (early-utc (uts (ending s day) t) (wellFormed s) (lastDay s) (ending s day) utsCutoff day t (omega arith) h)
 
-  pub early-micros-said : (u : ℕ) → u < nanosCutoff → earlyMicros last day u ≡ utsToUtc s day u
+  pub early-micros-said : (u : ℕ) → u < nanosCutoff → earlyMicros well last day u ≡ utsToUtc s day u
   early-micros-said u h =
       same-date f day (u / 1000) (utcOf (ending s day) u) (λ _ _ _. back-plain (ending s day) u h)
       ∙ sym (early-as-date (utcOf (ending s day) u) (wellFormed s) (lastDay s) nanosPerDay nanosCutoff day u (omega arith) h)

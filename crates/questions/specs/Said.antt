@@ -52,19 +52,19 @@ dtaiBy k day = atDate (k .well) (k .last) day (dtaiSaid k)
 abbrev pub taiBy : Day → ℕ → ℕ → Answer ℕ
 taiBy k day t = atUtc (k .well) (inCalendar (k .last)) (k .ending) taiCutoff day t (taiWith (dtaiSaid k) day t)
 
--- UTC to UTS; and before the last 1,001 s of a day, under a list whose last day is given
+-- UTC to UTS; and before the last 1,001 s of a day, by whether words are a list, and its last day
 abbrev pub utsBy : Day → ℕ → ℕ → Answer ℕ
 utsBy k day t = atUtc (k .well) (k .last) (k .ending) utsCutoff day t (uts (k .ending) t)
 
-abbrev pub earlyUts : ℕ → ℕ → ℕ → Answer ℕ
-earlyUts last day t = atDate true last day (1000 * min t utsCutoff)
+abbrev pub earlyUts : Bool → ℕ → ℕ → ℕ → Answer ℕ
+earlyUts well last day t = atDate well last day (1000 * min t utsCutoff)
 
 -- UTS to UTC; and likewise
 abbrev pub microsBy : Day → ℕ → ℕ → Answer ℕ
 microsBy k day u = atUts (k .well) (k .last) day u (utcOf (k .ending) u)
 
-abbrev pub earlyMicros : ℕ → ℕ → ℕ → Answer ℕ
-earlyMicros last day u = atDate true last day (u / 1000)
+abbrev pub earlyMicros : Bool → ℕ → ℕ → ℕ → Answer ℕ
+earlyMicros well last day u = atDate well last day (u / 1000)
 
 -- TAI to UTC goes by a day near the TAI: no DTAI is above 266 s, so the day that this gives is that of the TAI or the one before it, or `last`
 abbrev pub mostDtai : ℕ

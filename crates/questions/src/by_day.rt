@@ -127,12 +127,12 @@ pub fn uts_on(k: Day, day: u64, micros: u64) -> UtsAnswer
     UtsAnswer::Given(UtsNanos(smoothed(w, micros)))
 }
 
-// UTC to smoothed time under a list, before the last 1,001 s of a day, where it does not depend on how the day ends and is known on every known
+// UTC to smoothed time before the last 1,001 s of a day, where it does not depend on how the day ends and is known on every known
 // date.
-pub fn early_uts(last: u64, day: u64, micros: u64) -> UtsAnswer
-    ensures { λ r. ⌜ r ≡ utsAnswer (earlyUts last day micros) ⌝ }
+pub fn early_uts(well: bool, last: u64, day: u64, micros: u64) -> UtsAnswer
+    ensures { λ r. ⌜ r ≡ utsAnswer (earlyUts well last day micros) ⌝ }
 {
-    let number = date_refusal(true, last, day);
+    let number = date_refusal(well, last, day);
     if number != 0 {
         return UtsAnswer::Refused(number);
     }
@@ -141,10 +141,10 @@ pub fn early_uts(last: u64, day: u64, micros: u64) -> UtsAnswer
 }
 
 // Smoothed time to UTC, likewise.
-pub fn early_micros(last: u64, day: u64, nanos: u64) -> MicrosAnswer
-    ensures { λ r. ⌜ r ≡ microsAnswer (earlyMicros last day nanos) ⌝ }
+pub fn early_micros(well: bool, last: u64, day: u64, nanos: u64) -> MicrosAnswer
+    ensures { λ r. ⌜ r ≡ microsAnswer (earlyMicros well last day nanos) ⌝ }
 {
-    let number = date_refusal(true, last, day);
+    let number = date_refusal(well, last, day);
     if number != 0 {
         return MicrosAnswer::Refused(number);
     }

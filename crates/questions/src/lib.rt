@@ -31,7 +31,6 @@ use clock::UtcAnswer;
 use clock::UtcMicros;
 use clock::UtsAnswer;
 use clock::UtsNanos;
-use refusals::NOT_WELL_FORMED;
 use schedule::expiry_of;
 
 // DTAI, TAI minus UTC, for a date.
@@ -65,10 +64,7 @@ pub fn utc_to_uts(words: &[u32; 514], day: u64, t: UtcMicros) -> UtsAnswer
 {
     let last = day_before(expiry_of(words));
     if t.0 < UTS_CUTOFF {
-        if schedule::is_list(words) {
-            return early_uts(last, day, t.0);
-        }
-        return UtsAnswer::Refused(NOT_WELL_FORMED);
+        return early_uts(schedule::is_list(words), last, day, t.0);
     }
     uts_on(day_in(words, last, day), day, t.0)
 }
@@ -79,10 +75,7 @@ pub fn uts_to_utc(words: &[u32; 514], day: u64, u: UtsNanos) -> MicrosAnswer
 {
     let last = day_before(expiry_of(words));
     if u.0 < NANOS_CUTOFF {
-        if schedule::is_list(words) {
-            return early_micros(last, day, u.0);
-        }
-        return MicrosAnswer::Refused(NOT_WELL_FORMED);
+        return early_micros(schedule::is_list(words), last, day, u.0);
     }
     micros_on(day_in(words, last, day), day, u.0)
 }

@@ -1,5 +1,4 @@
 -- `questions::by_day::early_uts` meets its contract. Assumes nothing.
-use mathlib.Core.Bool.{true}
 use mathlib.Core.Path.{sym, ap, _∙_}
 use Prim.Native.Nat.{_*_, min}
 use native.Mathlib.Omega.{arith}
@@ -16,10 +15,10 @@ returns c =
     let args = c .before .before .args in
     let date-refusal = c .before .date-refusal in
     let if1 = c .if1 in
-    sym (ap utsAnswer (then-refused _ (date-then true (args .last) (args .day) (1000 * min (args .micros) utsCutoff)) (date-refusal .ensures .0) (if1 .taken)))
+    sym (ap utsAnswer (then-refused _ (date-then (args .well) (args .last) (args .day) (1000 * min (args .micros) utsCutoff)) (date-refusal .ensures .0) (if1 .taken)))
 
-mul-t7 : tie.Need-mul-t7
-mul-t7 c =
+mul-t8 : tie.Need-mul-t8
+mul-t8 c =
     let smaller = c .smaller in
     omega (arith, smaller .ensures)
 
@@ -30,7 +29,7 @@ returns-2 c =
     let date-refusal = c .before .before .date-refusal in
     let if1 = c .before .if1 in
     ap (λ u. Given (record { 0 = 1000 * u })) (smaller .ensures)
-    ∙ sym (ap utsAnswer (then-passed _ (date-then true (args .last) (args .day) (1000 * min (args .micros) utsCutoff)) (date-refusal .ensures .0) (if1 .left)))
+    ∙ sym (ap utsAnswer (then-passed _ (date-then (args .well) (args .last) (args .day) (1000 * min (args .micros) utsCutoff)) (date-refusal .ensures .0) (if1 .left)))
 
 pub early-uts-spec : {M : Type 1} → statement M
-early-uts-spec = tie.close (tie.spec (λ c κs. search needs) returns (λ c κs. search needs) mul-t7 returns-2)
+early-uts-spec = tie.close (tie.spec (λ c κs. search needs) returns (λ c κs. search needs) mul-t8 returns-2)
