@@ -14,7 +14,7 @@ use Rattle.compare.specs.declared.longer.Chosen.the-variants.{First, Second, Re
 use Rattle.compare.specs.Longer.{chosen}
 use Rattle.compare.proofs.TwoTexts.{Taken}
 use Rattle.compare.proofs.Handed.{both-read}
-use Rattle.format.specs.Refusal.{refusal}
+use Rattle.ascii.specs.Refusal.{refusal}
 use Rattle.answers.specs.Lists.{longerBy}
 
 read-few : (x : List ℕ) → Taken x → length x ≤ 1028

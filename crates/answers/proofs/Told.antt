@@ -2,7 +2,7 @@
 use mathlib.Core.Path.{_≡_, refl}
 use Prim.Native.Nat.{ℕ}
 use lib.IntN.{ℤ}
-use Rattle.format.specs.Decimal.{decimal, signed}
+use Rattle.ascii.specs.Decimal.{decimal, signed}
 use Rattle.refusals.specs.Answer.{Answer, given, refused}
 use Rattle.clock.specs.Question.{Utc, TAI-to-UTC, dtaiOn, utcToTai, taiToUtc, utcToUts, utsToUtc}
 use Rattle.clock.specs.Answers.{dtaiAnswer, taiAnswer, utcAnswer, utsAnswer, microsAnswer}

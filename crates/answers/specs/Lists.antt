@@ -3,9 +3,9 @@
 use Prim.Native.Nat.{ℕ}
 use mathlib.Core.Bool.{Bool, cond}
 use mathlib.Core.List.{List}
-use Rattle.format.specs.Ascii.{ascii}
-use Rattle.format.specs.Hex.{hex}
-use Rattle.format.specs.Parts.{same}
+use Rattle.ascii.specs.Ascii.{ascii}
+use Rattle.ascii.specs.Hex.{hex}
+use Rattle.ascii.specs.Parts.{same}
 use Rattle.schedule.specs.Schedule.{Schedule}
 use Rattle.schedule.specs.Answers.{Reading, byReading}
 use Rattle.text.specs.Read.{readText}
@@ -14,7 +14,7 @@ use Rattle.compare.specs.declared.longer.Chosen.{Chosen}
 use Rattle.compare.specs.declared.longer.Chosen.the-variants.{First, Second, Refused}
 use Rattle.compare.specs.Compare.{comparisonOf}
 use Rattle.compare.specs.Longer.{chosen}
-use Rattle.format.specs.Refusal.{refusal, refusalAt}
+use Rattle.ascii.specs.Refusal.{refusal, refusalAt}
 
 -- the embedded list, the official table of July 2026
 abbrev pub current : List ℕ

@@ -4,9 +4,9 @@
 use Prim.Native.Nat.{ℕ}
 use mathlib.Core.Bool.{cond}
 use mathlib.Core.List.{List}
-use Rattle.format.specs.Ascii.{ascii}
-use Rattle.format.specs.Parts.{same}
-use Rattle.format.specs.Decimal.{decimal, signed}
+use Rattle.ascii.specs.Ascii.{ascii}
+use Rattle.ascii.specs.Parts.{same}
+use Rattle.ascii.specs.Decimal.{decimal, signed}
 use Rattle.clock.specs.declared.DtaiAnswer.{DtaiAnswer}
 use Rattle.clock.specs.declared.DtaiAnswer.the-variants as dtai
 use Rattle.clock.specs.declared.TaiAnswer.{TaiAnswer}
@@ -17,8 +17,8 @@ use Rattle.clock.specs.declared.UtsAnswer.{UtsAnswer}
 use Rattle.clock.specs.declared.UtsAnswer.the-variants as uts
 use Rattle.clock.specs.declared.MicrosAnswer.{MicrosAnswer}
 use Rattle.clock.specs.declared.MicrosAnswer.the-variants as micros
-use Rattle.format.specs.Lines.{twoNumbers}
-use Rattle.format.specs.Refusal.{refusal}
+use Rattle.ascii.specs.Lines.{twoNumbers}
+use Rattle.ascii.specs.Refusal.{refusal}
 
 -- the list that a field names, by the embedded list
 abbrev pub namedBy : List ℕ → List ℕ → List ℕ

@@ -2,11 +2,11 @@
 -- Assumes nothing: these are definitions.
 use Prim.Native.Nat.{ℕ}
 use mathlib.Core.List.{List}
-use Rattle.format.specs.Decimal.{decimal, signed}
+use Rattle.ascii.specs.Decimal.{decimal, signed}
 use Rattle.refusals.specs.Answer.{Answer, given, refused}
 use Rattle.clock.specs.Question.{Question, DTAI, UTC-to-TAI, TAI-to-UTC, UTC-to-UTS, UTS-to-UTC, Value, ask}
-use Rattle.format.specs.Lines.{twoNumbers}
-use Rattle.format.specs.Refusal.{refusal}
+use Rattle.ascii.specs.Lines.{twoNumbers}
+use Rattle.ascii.specs.Refusal.{refusal}
 use Rattle.schedule.specs.Schedule.{Schedule}
 use Rattle.answers.specs.declared.times.Asked.{Asked}
 use Rattle.answers.specs.declared.times.Asked.the-variants as asked

@@ -1,8 +1,8 @@
 // The list that a field names, and the same list as nybbles.
 ghost use mathlib.Core.Path.{_≡_};
 ghost use mathlib.Core.Bool.{true};
-ghost use Rattle.format.specs.Output.{PutsUpTo};
-ghost use Rattle.format.specs.Hex.{hex};
+ghost use Rattle.ascii.specs.Output.{PutsUpTo};
+ghost use Rattle.ascii.specs.Hex.{hex};
 ghost use Rattle.schedule.specs.Schedule.{leavesGap, wellFormed};
 ghost use Rattle.schedule.specs.WordLayout.{meant};
 ghost use Rattle.schedule.specs.Answers.{HandsReading};
@@ -10,9 +10,9 @@ ghost use Rattle.text.specs.Read.{readText};
 ghost use Rattle.nybbles.specs.Write.{nybblesOf};
 ghost use Rattle.answers.specs.Private.{namedBy};
 ghost use Rattle.answers.specs.Lists.{listOf, nybblesAnswer};
-use format::hex::put_hex;
-use format::parts::same;
-use format::refusal::put_refusal_at;
+use ascii::hex::put_hex;
+use ascii::parts::same;
+use ascii::refusal::put_refusal_at;
 
 // The embedded list.
 pub(crate) const CURRENT: [u8; 83] =

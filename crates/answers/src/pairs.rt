@@ -1,12 +1,12 @@
 // Answers about two lists that fields name: where they part, and the longer one.
-ghost use Rattle.format.specs.Output.{PutsUpTo};
+ghost use Rattle.ascii.specs.Output.{PutsUpTo};
 ghost use Rattle.compare.specs.Longer.{chosen};
 ghost use Rattle.answers.specs.Lists.{comparisonAnswer, longerBy, longerAnswer};
 use crate::lists::CURRENT;
 use crate::lists::list_of;
+use ascii::output::put_all;
+use ascii::refusal::put_refusal;
 use compare::longer::Chosen;
-use format::output::put_all;
-use format::refusal::put_refusal;
 
 // Puts the comparison of two lists, LF between its lines or `; `; of a refusal the number alone.
 pub fn put_comparison(out: &mut [u8], at: usize, lines: bool, x: &[u8], y: &[u8]) -> usize

@@ -1,9 +1,14 @@
 // Answers to time questions under a list.
-ghost use Rattle.format.specs.Output.{PutsUpTo};
+ghost use Rattle.ascii.specs.Output.{PutsUpTo};
 ghost use Rattle.answers.specs.Times.{askedOf, askedUnder, questionOf};
 ghost use Rattle.schedule.specs.WordLayout.{meant};
 ghost use Rattle.answers.specs.Private.{ofDtai, ofTai, ofUtc, ofUts, ofMicros};
 use crate::lists::read_list;
+use ascii::decimal::put_decimal;
+use ascii::decimal::put_signed;
+use ascii::lines::put_two_numbers;
+use ascii::refusal::put_refusal;
+use ascii::refusal::put_refusal_at;
 use clock::DtaiAnswer;
 use clock::MicrosAnswer;
 use clock::TaiAnswer;
@@ -12,11 +17,6 @@ use clock::UtcAnswer;
 use clock::UtcMicros;
 use clock::UtsAnswer;
 use clock::UtsNanos;
-use format::decimal::put_decimal;
-use format::decimal::put_signed;
-use format::lines::put_two_numbers;
-use format::refusal::put_refusal;
-use format::refusal::put_refusal_at;
 
 // A time question, with a day or an instant.
 pub enum Asked {

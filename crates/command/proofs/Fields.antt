@@ -9,14 +9,14 @@ use lib.ListN.{length}
 use types.Run.{OneOf, miss}
 use denote.Enum.Declared.{tagOf}
 use borrow.Author.Tests.{le-leb, lt-leb}
-use Rattle.format.specs.Parts.{firstPart, parts}
-use Rattle.format.proofs.Splitting.{last-part, more-parts}
-use Rattle.format.proofs.Fields.{only, first-and-rest}
+use Rattle.ascii.specs.Parts.{firstPart, parts}
+use Rattle.ascii.proofs.Splitting.{last-part, more-parts}
+use Rattle.ascii.proofs.Fields.{only, first-and-rest}
 use Rattle.line.proofs.words.Form as formType
 use Rattle.line.specs.declared.words.Form.{Form}
 use Rattle.line.specs.declared.words.Form.the-variants as form
 use Rattle.line.specs.declared.words.Word.{Word}
-use Rattle.format.specs.Lines.{spaceByte}
+use Rattle.ascii.specs.Lines.{spaceByte}
 use Rattle.line.specs.Words.{formOf, expected}
 use Rattle.command.specs.Answer.{oneField, ofList, ofHex, answerBy, answerFor, answerParts, maxLine, tooLong, answerTo}
 

@@ -7,13 +7,13 @@ use native.Mathlib.Omega.{arith}
 use lib.Dec.{leb}
 use lib.ListN.{length, getD}
 use borrow.Author.Tests.{eqb-false}
-use Rattle.format.specs.Decimal.{numberOf}
-use Rattle.format.specs.declared.decimal.Number.{Number}
-use Rattle.format.specs.declared.decimal.Number.the-variants.{Given, Missing}
-use Rattle.format.specs.Hex.{isHex, unhex, hex}
-use Rattle.format.specs.Parts.{parts}
-use Rattle.format.proofs.Fields.{hasNo}
-use Rattle.format.proofs.Unbroken.{Unbroken, more, parted, append, either, in-decimal, in-signed, in-hex, in-refusal, with-place, first-part}
+use Rattle.ascii.specs.Decimal.{numberOf}
+use Rattle.ascii.specs.declared.decimal.Number.{Number}
+use Rattle.ascii.specs.declared.decimal.Number.the-variants.{Given, Missing}
+use Rattle.ascii.specs.Hex.{isHex, unhex, hex}
+use Rattle.ascii.specs.Parts.{parts}
+use Rattle.ascii.proofs.Fields.{hasNo}
+use Rattle.ascii.proofs.Unbroken.{Unbroken, more, parted, append, either, in-decimal, in-signed, in-hex, in-refusal, with-place, first-part}
 use Rattle.text.specs.Read.{readText}
 use Rattle.text.specs.Write.{textOf}
 use Rattle.nybbles.specs.Read.{readNybbles}
@@ -28,8 +28,8 @@ use Rattle.line.specs.declared.words.ListWord.{ListWord}
 use Rattle.line.specs.declared.words.ListWord.the-variants as list
 use Rattle.line.specs.declared.words.PairWord.{PairWord}
 use Rattle.line.specs.declared.words.PairWord.the-variants as pair
-use Rattle.format.specs.Lines.{newline, spaceByte}
-use Rattle.format.specs.Refusal.{refusalAt}
+use Rattle.ascii.specs.Lines.{newline, spaceByte}
+use Rattle.ascii.specs.Refusal.{refusalAt}
 use Rattle.line.specs.Words.{wordOf, formOf}
 use Rattle.stream.specs.Lines.{butLast, linesOf}
 use Rattle.stream.specs.Stream.{printed}

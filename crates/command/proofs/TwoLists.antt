@@ -4,8 +4,8 @@ use mathlib.Core.Bool.{false}
 use mathlib.Core.List.{List, [], _∷_}
 use Prim.Native.Nat.{ℕ}
 use lib.Dec.{eqb}
-use Rattle.format.specs.Lines.{between}
-use Rattle.format.proofs.Unbroken.{Unbroken, empty, append, either, in-decimal, in-refusal}
+use Rattle.ascii.specs.Lines.{between}
+use Rattle.ascii.proofs.Unbroken.{Unbroken, empty, append, either, in-decimal, in-refusal}
 use Rattle.schedule.specs.Schedule.{Schedule}
 use Rattle.schedule.specs.Answers.{Reading, byReading}
 use Rattle.text.specs.Read.{readText}

@@ -3,16 +3,16 @@ use mathlib.Core.Path.{refl}
 use mathlib.Core.Bool.{false}
 use mathlib.Core.List.{List, [], _∷_}
 use Prim.Native.Nat.{ℕ, _+_, _-_}
-use Rattle.format.specs.Ascii.{ascii}
-use Rattle.format.proofs.Fields.{hasNo}
-use Rattle.format.proofs.Unbroken.{Unbroken, empty, more, append, either, digit, in-decimal, with-sign, in-refusal}
+use Rattle.ascii.specs.Ascii.{ascii}
+use Rattle.ascii.proofs.Fields.{hasNo}
+use Rattle.ascii.proofs.Unbroken.{Unbroken, empty, more, append, either, digit, in-decimal, with-sign, in-refusal}
 use Rattle.calendar.specs.Calendar.{monthStart, monthOf}
 use Rattle.schedule.specs.Schedule.{Leap, Schedule, expiryMonth}
 use Rattle.text.specs.Write.{digits, textFrom, textOf}
 use Rattle.compare.proofs.Shown.{sign}
 use Rattle.line.specs.declared.words.Word.{Word}
 use Rattle.line.specs.declared.words.Word.the-variants.{Show, Nybbles, Text, Dtai, Tai, Utc, Uts, Unsmooth, Compare, Longer, Other}
-use Rattle.format.specs.Lines.{between}
+use Rattle.ascii.specs.Lines.{between}
 use Rattle.line.specs.Words.{usage, expected}
 use Rattle.show.specs.Show.{date, dateOf, stretch, stretches, shown}
 

@@ -3,7 +3,7 @@ use mathlib.Core.List.{List, [], _∷_}
 use Prim.Native.Nat.{ℕ, _*_, _≤_}
 use native.Mathlib.Omega.{arith}
 use lib.ListN.{length}
-use Rattle.format.specs.Hex.{unhex}
+use Rattle.ascii.specs.Hex.{unhex}
 
 pub unhex-length : (field : List ℕ) → 2 * length (unhex field) ≤ length field
 unfolding unhex

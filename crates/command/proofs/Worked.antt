@@ -4,10 +4,10 @@ use mathlib.Core.Path.{_≡_, refl}
 use mathlib.Core.Bool.{Bool, true, false}
 use mathlib.Core.List.{List, [], _∷_}
 use Prim.Native.String.{String}
-use Rattle.format.specs.Ascii.{ascii, within}
-use Rattle.format.specs.Decimal.{decimal, digitsIn, allDigits, valueAfter, numberOf}
-use Rattle.format.specs.Lines.{between}
-use Rattle.format.specs.Parts.{same, parts}
+use Rattle.ascii.specs.Ascii.{ascii, within}
+use Rattle.ascii.specs.Decimal.{decimal, digitsIn, allDigits, valueAfter, numberOf}
+use Rattle.ascii.specs.Lines.{between}
+use Rattle.ascii.specs.Parts.{same, parts}
 use Rattle.calendar.specs.Calendar.{isLeapYear, monthLengths, daysInMonth, monthStart, monthOf, startsMonth, monthAt}
 use Rattle.schedule.specs.Schedule.{isExpired, gapsFit, lastLeap}
 use Rattle.schedule.specs.Answers.{byReading}
@@ -15,10 +15,10 @@ use Rattle.schedule.specs.Extends.{below, sameLeaps}
 use Rattle.text.specs.Read.{readFrom, readText}
 use Rattle.compare.specs.Longer.{chosenOf}
 use Rattle.compare.specs.Compare.{hasLeap, leapMark, lineAt, monthLines, expiryLines, linesOf, relationBy, joined}
-use Rattle.format.specs.Refusal.{refusal, refusalAt}
+use Rattle.ascii.specs.Refusal.{refusal, refusalAt}
 use Rattle.line.specs.Words.{wordOf, formOf, usage, expected}
 use Rattle.answers.specs.Lists.{listOf, longerBy}
-use Rattle.format.specs.Hex.{hex, nybbleOf, allHexDigits, unhex}
+use Rattle.ascii.specs.Hex.{hex, nybbleOf, allHexDigits, unhex}
 use Rattle.calendar.specs.Greatest.{greatest}
 use Rattle.text.specs.Write.{digits, textFrom, textOf}
 use Rattle.nybbles.specs.Codes.{nybbles, single, wide, codesOf}

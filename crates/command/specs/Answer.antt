@@ -6,13 +6,13 @@ use mathlib.Core.Bool.{Bool, cond}
 use mathlib.Core.List.{List, [], _∷_}
 use lib.Dec.{leb}
 use lib.ListN.{length}
-use Rattle.format.specs.Ascii.{ascii}
-use Rattle.format.specs.Output.{filled}
-use Rattle.format.specs.Decimal.{numberOf}
-use Rattle.format.specs.declared.decimal.Number.{Number}
-use Rattle.format.specs.declared.decimal.Number.the-variants.{Given, Missing}
-use Rattle.format.specs.Hex.{isHex, unhex}
-use Rattle.format.specs.Parts.{parts}
+use Rattle.ascii.specs.Ascii.{ascii}
+use Rattle.ascii.specs.Output.{filled}
+use Rattle.ascii.specs.Decimal.{numberOf}
+use Rattle.ascii.specs.declared.decimal.Number.{Number}
+use Rattle.ascii.specs.declared.decimal.Number.the-variants.{Given, Missing}
+use Rattle.ascii.specs.Hex.{isHex, unhex}
+use Rattle.ascii.specs.Parts.{parts}
 use Rattle.text.specs.Write.{textOf}
 use Rattle.nybbles.specs.Read.{readNybbles}
 use Rattle.clock.specs.Question.{Question, DTAI, UTC-to-TAI, TAI-to-UTC, UTC-to-UTS, UTS-to-UTC}
@@ -28,7 +28,7 @@ use Rattle.line.specs.declared.words.TimeWord.{TimeWord}
 use Rattle.line.specs.declared.words.TimeWord.the-variants as time
 use Rattle.line.specs.declared.words.PairWord.{PairWord}
 use Rattle.line.specs.declared.words.PairWord.the-variants as pair
-use Rattle.format.specs.Lines.{spaceByte}
+use Rattle.ascii.specs.Lines.{spaceByte}
 use Rattle.line.specs.Words.{wordOf, formOf, expected}
 use Rattle.show.specs.Show.{shown}
 use Rattle.answers.specs.Lists.{aboutRead, aboutList, nybblesAnswer, comparisonAnswer, longerAnswer}

@@ -3,7 +3,7 @@
 use Prim.Native.Nat.{ℕ, _+_}
 use mathlib.Core.Bool.{false}
 use mathlib.Core.List.{List, [], _∷_, _++_}
-use Rattle.format.specs.Lines.{newline}
+use Rattle.ascii.specs.Lines.{newline}
 use Rattle.stream.specs.Stream.{Answering}
 use Rattle.command.specs.Answer.{maxAnswer, answerTo}
 

@@ -1,11 +1,11 @@
 // Question lines and their answers. Any bytes may be given as a line; what is no question is answered by what was expected.
 ghost use Prim.Native.Nat.{_≤_};
 ghost use lib.ListN.{length};
-ghost use Rattle.format.specs.Output.{PutsUpTo};
-ghost use Rattle.format.specs.Parts.{parts};
-ghost use Rattle.format.specs.Lines.{spaceByte};
+ghost use Rattle.ascii.specs.Output.{PutsUpTo};
+ghost use Rattle.ascii.specs.Parts.{parts};
+ghost use Rattle.ascii.specs.Lines.{spaceByte};
 ghost use Rattle.command.specs.Answer.{maxLine, maxAnswer, oneField, twoFields, aNumber, ofList, ofNumber, ofTime, ofPair, answerFor, answerTo, Answered};
-ghost use Rattle.format.specs.Decimal.{numberOf};
+ghost use Rattle.ascii.specs.Decimal.{numberOf};
 ghost use Rattle.line.specs.Words.{expected};
 ghost use Rattle.answers.specs.Times.{askedUnder};
 ghost use Rattle.stream.specs.Lines.{linesOf};
@@ -18,14 +18,14 @@ mod lists; // lists.rt: a list as its stretches, and a nybble list as text
 use answers::pairs;
 use answers::times::Asked;
 use answers::times::put_asked;
+use ascii::decimal::Number;
+use ascii::decimal::read_decimal;
+use ascii::output::put;
+use ascii::output::put_all;
+use ascii::parts::part_end;
 use clock::TaiMicros;
 use clock::UtcMicros;
 use clock::UtsNanos;
-use format::decimal::Number;
-use format::decimal::read_decimal;
-use format::output::put;
-use format::output::put_all;
-use format::parts::part_end;
 use line::words::Form;
 use line::words::ListWord;
 use line::words::NumberWord;

@@ -9,7 +9,7 @@ use native.Mathlib.Omega.{arith}
 use lib.Dec.{eqb}
 use lib.ListN.{length, getD}
 use borrow.Author.Tests.{eqb-true, eqb-false, eq-eqb, ne-eqb}
-use Rattle.format.specs.Ascii.{zeroByte}
+use Rattle.ascii.specs.Ascii.{zeroByte}
 use Rattle.schedule.specs.Schedule.{Leap, Schedule, noLeap, gapsFit, wellFormed}
 use Rattle.schedule.proofs.Cases.{by-bool}
 use Rattle.schedule.proofs.Gaps.{fits-lt, first, later, parts}

@@ -5,9 +5,9 @@ use mathlib.Core.Bool.{Bool, true}
 use mathlib.Core.List.{List, [], _∷_, _++_, append-assoc, append-nil}
 use Prim.Native.Nat.{ℕ, zero, suc, _+_}
 use lib.Dec.{eqb}
-use Rattle.format.specs.Ascii.{ascii}
-use Rattle.format.specs.Decimal.{decimal}
-use Rattle.format.specs.Lines.{newline, spaceByte, between}
+use Rattle.ascii.specs.Ascii.{ascii}
+use Rattle.ascii.specs.Decimal.{decimal}
+use Rattle.ascii.specs.Lines.{newline, spaceByte, between}
 use Rattle.schedule.specs.Schedule.{Schedule}
 use Rattle.schedule.proofs.Cases.{by-bool}
 use Rattle.compare.specs.Compare.{Line, mark, hasLine, lineAt, monthLines, expiryLines, relation, linesOf, told, inLines, joined, compared}

@@ -8,10 +8,10 @@ use native.Mathlib.Decide.{decLe}
 use native.Mathlib.Nat.{add-zero, zero-add, suc-add}
 use native.Mathlib.Omega.{arith}
 use lib.Dec.{eqb}
-use Rattle.format.specs.Ascii.{zeroByte}
-use Rattle.format.specs.Output.{PutsUpTo}
-use Rattle.format.proofs.LeftUpTo.{LeftUpTo, none-yet, more, all}
-use Rattle.format.specs.Lines.{between}
+use Rattle.ascii.specs.Ascii.{zeroByte}
+use Rattle.ascii.specs.Output.{PutsUpTo}
+use Rattle.ascii.proofs.LeftUpTo.{LeftUpTo, none-yet, more, all}
+use Rattle.ascii.specs.Lines.{between}
 use Rattle.schedule.specs.Schedule.{Leap, Schedule, gapsFit, wellFormed}
 use Rattle.schedule.proofs.WordLayout.{within}
 use Rattle.schedule.proofs.Cases.{by-bool}

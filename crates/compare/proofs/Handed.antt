@@ -13,8 +13,8 @@ use Rattle.schedule.specs.Answers.{unwritten, fitting, fitted}
 use Rattle.schedule.specs.Extends.{Extends, extends}
 use Rattle.schedule.proofs.Cases.{by-bool}
 use Rattle.schedule.proofs.Extension.{means, failed}
-use Rattle.format.specs.Ascii.{ascii}
-use Rattle.format.specs.Decimal.{decimal}
+use Rattle.ascii.specs.Ascii.{ascii}
+use Rattle.ascii.specs.Decimal.{decimal}
 use Rattle.text.specs.Read.{readText}
 use Rattle.text.proofs.Sound.{accepted-well-formed}
 use Rattle.text.proofs.Spelling.{no-other}

@@ -3,8 +3,8 @@ use mathlib.Core.Path.{_≡_, sym, ap, _∙_}
 use mathlib.Core.List.{List}
 use Prim.Native.Nat.{ℕ, _≤_, _<_}
 use lib.ListN.{length, take}
-use Rattle.format.specs.Output.{Puts}
-use Rattle.format.proofs.Putting.{whole}
+use Rattle.ascii.specs.Output.{Puts}
+use Rattle.ascii.proofs.Putting.{whole}
 use Rattle.schedule.specs.Answers.{unwritten}
 use Rattle.schedule.proofs.Answers.{Fits, fits, no-room}
 

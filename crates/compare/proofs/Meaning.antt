@@ -9,7 +9,7 @@ use native.Mathlib.Omega.{arith}
 use lib.Dec.{eqb}
 use lib.ListN.{length, getD}
 use borrow.Author.Tests.{eqb-true, eq-eqb, ne-eqb}
-use Rattle.format.specs.Ascii.{ascii, zeroByte}
+use Rattle.ascii.specs.Ascii.{ascii, zeroByte}
 use Rattle.schedule.specs.declared.Sign.{Sign}
 use Rattle.schedule.specs.declared.Sign.the-variants.{Positive, Negative}
 use Rattle.schedule.specs.Schedule.{Leap, Schedule, monthStart, gapsFit, wellFormed}

@@ -11,7 +11,7 @@ use native.Mathlib.Omega.{arith}
 use lib.Dec.{eqb}
 use lib.ListN.{length, length-append}
 use borrow.Author.Tests.{eqb-true, eqb-false, eq-eqb, ne-eqb}
-use Rattle.format.specs.Ascii.{ascii, zeroByte}
+use Rattle.ascii.specs.Ascii.{ascii, zeroByte}
 use Rattle.schedule.specs.Schedule.{Schedule, isExpired, wellFormed}
 use Rattle.schedule.specs.Extends.{Extends}
 use Rattle.schedule.proofs.Cases.{by-bool}

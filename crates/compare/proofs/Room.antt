@@ -9,10 +9,10 @@ use native.Mathlib.Omega.{arith}
 use lib.Dec.{eqb, ltb}
 use lib.ListN.{length, length-append}
 use borrow.Author.Tests.{eqb-true, ne-eqb, ltb-true, lt-ltb}
-use Rattle.format.specs.Ascii.{zeroByte}
-use Rattle.format.specs.Decimal.{decimal}
-use Rattle.format.proofs.Digits.{decimal-short}
-use Rattle.format.specs.Lines.{newline, spaceByte, between}
+use Rattle.ascii.specs.Ascii.{zeroByte}
+use Rattle.ascii.specs.Decimal.{decimal}
+use Rattle.ascii.proofs.Digits.{decimal-short}
+use Rattle.ascii.specs.Lines.{newline, spaceByte, between}
 use Rattle.schedule.specs.Schedule.{Leap, Schedule, gapsFit, wellFormed}
 use Rattle.schedule.specs.Extends.{extends}
 use Rattle.schedule.proofs.Cases.{by-bool}

@@ -9,11 +9,11 @@ use native.Mathlib.Nat.{eq-or-lt-of-le}
 use native.Mathlib.Omega.{arith}
 use lib.Dec.{eqb}
 use borrow.Author.Tests.{eqb-false, ne-eqb}
-use Rattle.format.specs.Decimal.{decimal}
-use Rattle.format.specs.Lines.{newline}
-use Rattle.format.specs.Parts.{parts}
-use Rattle.format.proofs.Fields.{hasNo}
-use Rattle.format.proofs.Unbroken.{Unbroken, empty, more, append, in-decimal, first-part}
+use Rattle.ascii.specs.Decimal.{decimal}
+use Rattle.ascii.specs.Lines.{newline}
+use Rattle.ascii.specs.Parts.{parts}
+use Rattle.ascii.proofs.Fields.{hasNo}
+use Rattle.ascii.proofs.Unbroken.{Unbroken, empty, more, append, in-decimal, first-part}
 use Rattle.schedule.specs.declared.Sign.{Sign}
 use Rattle.schedule.specs.declared.Sign.the-variants.{Positive, Negative}
 use Rattle.schedule.specs.Schedule.{Leap, Schedule, wellFormed}

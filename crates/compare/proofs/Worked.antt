@@ -5,9 +5,9 @@ use mathlib.Core.Bool.{Bool, true, false, _&&_}
 use mathlib.Core.List.{List, [], _∷_}
 use Prim.Native.Nat.{ℕ}
 use Prim.Native.String.{String}
-use Rattle.format.specs.Ascii.{ascii}
-use Rattle.format.specs.Decimal.{decimal, digitsIn}
-use Rattle.format.specs.Lines.{between}
+use Rattle.ascii.specs.Ascii.{ascii}
+use Rattle.ascii.specs.Decimal.{decimal, digitsIn}
+use Rattle.ascii.specs.Lines.{between}
 use Rattle.calendar.specs.Calendar.{isLeapYear, monthLengths, daysInMonth, monthStart}
 use Rattle.schedule.specs.Schedule.{isExpired}
 use Rattle.schedule.specs.Answers.{byReading, unwritten, fitting, fitted}

@@ -4,9 +4,9 @@ use Prim.Native.Nat.{ℕ, zero, suc, _+_}
 use mathlib.Core.Bool.{Bool, true, false, not, _&&_, _||_, cond}
 use mathlib.Core.List.{List, [], _∷_, _++_}
 use lib.Dec.{eqb}
-use Rattle.format.specs.Ascii.{ascii, zeroByte}
-use Rattle.format.specs.Decimal.{decimal}
-use Rattle.format.specs.Lines.{newline, spaceByte, between}
+use Rattle.ascii.specs.Ascii.{ascii, zeroByte}
+use Rattle.ascii.specs.Decimal.{decimal}
+use Rattle.ascii.specs.Lines.{newline, spaceByte, between}
 use Rattle.schedule.specs.declared.Writing.{Writing}
 use Rattle.schedule.specs.Schedule.{Leap, Schedule, lastMonth, isExpired}
 use Rattle.schedule.specs.Answers.{unwritten, fitting, fitted}

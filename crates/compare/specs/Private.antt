@@ -6,9 +6,9 @@ use mathlib.Core.Bool.{Bool, cond}
 use mathlib.Core.List.{List, [], _∷_, _++_}
 use lib.Dec.{eqb}
 use lib.ListN.{drop}
-use Rattle.format.specs.Ascii.{ascii, zeroByte}
-use Rattle.format.specs.Decimal.{decimal}
-use Rattle.format.specs.Lines.{spaceByte, between}
+use Rattle.ascii.specs.Ascii.{ascii, zeroByte}
+use Rattle.ascii.specs.Decimal.{decimal}
+use Rattle.ascii.specs.Lines.{spaceByte, between}
 use Rattle.schedule.specs.Schedule.{Leap, Schedule, lastMonth, monthOf}
 use Rattle.schedule.specs.WordLayout.{meant}
 use Rattle.schedule.specs.Extends.{extends}

@@ -4,19 +4,19 @@ ghost use mathlib.Core.Bool.{true, cond};
 ghost use Prim.Native.Nat.{_+_, _≤_, min};
 ghost use lib.Dec.{eqb};
 ghost use lib.ListN.{length};
-ghost use Rattle.format.specs.Output.{PutsUpTo};
-ghost use Rattle.format.specs.Lines.{between};
+ghost use Rattle.ascii.specs.Output.{PutsUpTo};
+ghost use Rattle.ascii.specs.Lines.{between};
 ghost use Rattle.schedule.specs.Schedule.{wellFormed};
 ghost use Rattle.schedule.specs.WordLayout.{meant};
 ghost use Rattle.schedule.specs.Answers.{fitting, fitted};
 ghost use Rattle.compare.specs.Compare.{relationBy, compared, comparing, comparedInto, comparisonOf};
 ghost use Rattle.compare.specs.Private.{firstMonth, leapsFrom, lastKnown, markFrom, markLine, differences, expiryBytes, comparison};
 use crate::texts::read_both;
-use format::decimal::put_decimal;
-use format::decimal::wide;
-use format::lines::put_between;
-use format::output::put;
-use format::output::put_all;
+use ascii::decimal::put_decimal;
+use ascii::decimal::wide;
+use ascii::lines::put_between;
+use ascii::output::put;
+use ascii::output::put_all;
 use schedule::Writing;
 
 // Past the last month.

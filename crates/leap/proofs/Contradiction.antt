@@ -3,7 +3,7 @@
 use mathlib.Core.Path.{_≡_}
 use mathlib.Core.Bool.{true}
 use mathlib.Core.Logic.{_↔_, _⊎_, inl, inr}
-use Rattle.format.specs.Ascii.{ascii}
+use Rattle.ascii.specs.Ascii.{ascii}
 use Rattle.schedule.specs.Schedule.{Schedule, wellFormed}
 use Rattle.schedule.specs.Extends.{Extends}
 use Rattle.clock.specs.Question.{DTAI}

@@ -5,7 +5,7 @@ use mathlib.Core.List.{List, _∷_}
 use native.Mathlib.Omega.{arith}
 use lib.ListN.{length}
 use borrow.Author.Tests.{lt-ltb, le-ltb}
-use Rattle.format.proofs.Putting.{nothing, from-start}
+use Rattle.ascii.proofs.Putting.{nothing, from-start}
 use Rattle.stream.specs.Lines.{linesOf, sizeOf}
 use Rattle.stream.specs.Stream.{printed, after, answered}
 use Rattle.stream.proofs.Streams.{one-more}

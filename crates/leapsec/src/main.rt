@@ -5,7 +5,7 @@ mod lines; // lines.rt: the lines of standard input, questions or a trace
 mod output; // output.rt: standard output
 
 use crate::output::print_answer;
-use format::parts::part_end;
+use ascii::parts::part_end;
 use line::words::Word;
 use line::words::word_of;
 use shell::arguments::put_arguments;

@@ -1,5 +1,5 @@
 // Standard output.
-use format::output::put;
+use ascii::output::put;
 use shell::output::within;
 use shell::output::write;
 

@@ -3,8 +3,8 @@
 use Prim.Native.Nat.{ℕ}
 use mathlib.Core.Bool.{cond}
 use mathlib.Core.List.{List, _++_}
-use Rattle.format.specs.Ascii.{ascii}
-use Rattle.format.specs.Parts.{same}
+use Rattle.ascii.specs.Ascii.{ascii}
+use Rattle.ascii.specs.Parts.{same}
 use Rattle.line.specs.declared.words.Word.{Word}
 use Rattle.line.specs.declared.words.Word.the-variants.{Show, Nybbles, Text, Dtai, Tai, Utc, Uts, Unsmooth, Compare, Longer, Other}
 use Rattle.line.specs.declared.words.Form.{Form}

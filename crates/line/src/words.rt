@@ -1,11 +1,11 @@
 // The words of a question line, and what is answered where a line is no question.
 ghost use mathlib.Core.Bool.{cond};
 ghost use mathlib.Core.Path.{_≡_};
-ghost use Rattle.format.specs.Output.{PutsUpTo};
-ghost use Rattle.format.specs.Parts.{same};
+ghost use Rattle.ascii.specs.Output.{PutsUpTo};
+ghost use Rattle.ascii.specs.Parts.{same};
 ghost use Rattle.line.specs.Words.{wordOf, formOf, usage, expected};
-use format::output::put_all;
-use format::parts::same;
+use ascii::output::put_all;
+use ascii::parts::same;
 
 pub enum Word {
     Show,

@@ -6,10 +6,10 @@ use native.Mathlib.Omega.{arith}
 use lib.ListN.{length, take, drop}
 use borrow.Author.Tests.{eq-eqb, ne-eqb}
 use Rattle.refusals.specs.Refusals.{noLine}
-use Rattle.format.specs.Output.{PutsUpTo}
-use Rattle.format.specs.Decimal.{decimal, digitsIn}
-use Rattle.format.specs.Refusal.{refusal}
-use Rattle.format.proofs.Putting.{nothing, one-put, whole}
+use Rattle.ascii.specs.Output.{PutsUpTo}
+use Rattle.ascii.specs.Decimal.{decimal, digitsIn}
+use Rattle.ascii.specs.Refusal.{refusal}
+use Rattle.ascii.proofs.Putting.{nothing, one-put, whole}
 use Rattle.schedule.specs.WordLayout.{meant}
 use Rattle.schedule.specs.Answers.{HandsReading, unwritten}
 use Rattle.schedule.proofs.Answers.{Fits, fits, no-room}

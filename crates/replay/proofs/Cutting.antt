@@ -8,7 +8,7 @@ use lib.ListN.{length, take, drop, length-append}
 use lib.Seq.{length-take-le}
 use borrow.Author.Tests.{lt-leb}
 use Rattle.refusals.specs.Refusals.{noLine}
-use Rattle.format.specs.Lines.{newline}
+use Rattle.ascii.specs.Lines.{newline}
 use Rattle.stream.specs.Lines.{linesOf, sizeOf, rest}
 use Rattle.stream.specs.Stream.{printed, after}
 use Rattle.stream.proofs.Lines as lines

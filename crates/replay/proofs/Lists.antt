@@ -7,7 +7,7 @@ use mathlib.Core.Bool.{cond}
 use mathlib.Core.List.{List, [], _∷_, _++_}
 use lib.Dec.{eqb}
 use borrow.Author.Tests.{eqb-true}
-use Rattle.format.proofs.Cases.{by-bool}
+use Rattle.ascii.proofs.Cases.{by-bool}
 use Rattle.refusals.specs.Refusals.{noLine}
 use Rattle.schedule.specs.Schedule.{Schedule, blankSchedule}
 use Rattle.schedule.specs.WordLayout.{meant, wordsOf}

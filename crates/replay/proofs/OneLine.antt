@@ -2,11 +2,11 @@
 use Prim.Native.Nat.{ℕ}
 use mathlib.Core.Path.{_≡_, refl, sym, ap, _∙_}
 use mathlib.Core.List.{List, [], _∷_, _++_, append-nil, append-assoc}
-use Rattle.format.specs.Decimal.{decimal}
-use Rattle.format.specs.Lines.{newline, twoNumbers}
-use Rattle.format.specs.Parts.{parts}
-use Rattle.format.specs.Refusal.{refusal}
-use Rattle.format.proofs.Unbroken.{Unbroken, more, append, in-decimal, in-refusal, first-part}
+use Rattle.ascii.specs.Decimal.{decimal}
+use Rattle.ascii.specs.Lines.{newline, twoNumbers}
+use Rattle.ascii.specs.Parts.{parts}
+use Rattle.ascii.specs.Refusal.{refusal}
+use Rattle.ascii.proofs.Unbroken.{Unbroken, more, append, in-decimal, in-refusal, first-part}
 use Rattle.stream.specs.Lines.{butLast, linesOf, rest}
 use Rattle.stream.specs.Stream.{printed}
 use Rattle.stream.proofs.Lines as lines

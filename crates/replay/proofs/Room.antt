@@ -5,11 +5,11 @@ use mathlib.Core.List.{[], _∷_}
 use native.Mathlib.Omega.{arith}
 use lib.Dec.{eqb}
 use lib.ListN.{length, length-append}
-use Rattle.format.specs.Decimal.{decimal}
-use Rattle.format.specs.Lines.{newline, spaceByte, twoNumbers}
-use Rattle.format.specs.Refusal.{refusal}
-use Rattle.format.proofs.Cases.{by-bool}
-use Rattle.format.proofs.Digits.{decimal-short}
+use Rattle.ascii.specs.Decimal.{decimal}
+use Rattle.ascii.specs.Lines.{newline, spaceByte, twoNumbers}
+use Rattle.ascii.specs.Refusal.{refusal}
+use Rattle.ascii.proofs.Cases.{by-bool}
+use Rattle.ascii.proofs.Digits.{decimal-short}
 use Rattle.schedule.specs.Schedule.{Schedule}
 use Rattle.schedule.specs.WordLayout.{meant}
 use Rattle.text.specs.Read.{readText}

@@ -9,8 +9,8 @@ use lib.Dec.{eqb}
 use lib.ListN.{length, take, drop, length-append, length-take, drop-of-length-le}
 use lib.Seq.{take-all}
 use borrow.Author.Tests.{eqb-true, le-leb}
-use Rattle.format.specs.Lines.{newline}
-use Rattle.format.proofs.Cases.{by-bool}
+use Rattle.ascii.specs.Lines.{newline}
+use Rattle.ascii.proofs.Cases.{by-bool}
 use Rattle.stream.specs.Lines.{linesOf, sizeOf, rest}
 use Rattle.stream.specs.Stream.{printed, after, answered}
 use Rattle.stream.proofs.Lines as lines

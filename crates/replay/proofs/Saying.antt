@@ -8,13 +8,13 @@ use native.Mathlib.Decide.{decLe}
 use lib.Dec.{leb, eqb}
 use lib.ListN.{length, getD, take, drop}
 use lib.Seq.{take-all}
-use Rattle.format.specs.Parts.{firstPart, parts}
-use Rattle.format.specs.declared.decimal.Number.{Number}
-use Rattle.format.specs.declared.decimal.Number.the-variants.{Given, Missing}
-use Rattle.format.proofs.Cases.{by-bool}
-use Rattle.format.proofs.Fields.{part-alone}
-use Rattle.format.proofs.Splitting.{last-part, more-parts}
-use Rattle.format.specs.Lines.{spaceByte}
+use Rattle.ascii.specs.Parts.{firstPart, parts}
+use Rattle.ascii.specs.declared.decimal.Number.{Number}
+use Rattle.ascii.specs.declared.decimal.Number.the-variants.{Given, Missing}
+use Rattle.ascii.proofs.Cases.{by-bool}
+use Rattle.ascii.proofs.Fields.{part-alone}
+use Rattle.ascii.proofs.Splitting.{last-part, more-parts}
+use Rattle.ascii.specs.Lines.{spaceByte}
 use Rattle.replay.specs.declared.meaning.Said.{Said}
 use Rattle.replay.specs.declared.meaning.Said.the-variants.{Use, Store, Reset, Ask, Other}
 use Rattle.replay.specs.Trace.{Line, list, store, reset, question, other, letterL, letterS, letterZ, letterQ, maxLine, shortNumber, asks, questionOf, alone, followed, lineOf, meaning}

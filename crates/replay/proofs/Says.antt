@@ -9,15 +9,15 @@ use native.Mathlib.Omega.{arith}
 use lib.Dec.{leb, eqb}
 use lib.ListN.{length, length-append}
 use borrow.Author.Tests.{eqb-true, ne-eqb, leb-true, le-leb}
-use Rattle.format.specs.Ascii.{ascii, within}
-use Rattle.format.specs.Decimal.{isDigit, allDigits, valueAfter}
-use Rattle.format.specs.Lines.{spaceByte}
-use Rattle.format.specs.Parts.{parts}
-use Rattle.format.specs.declared.decimal.Number.{Number}
-use Rattle.format.specs.declared.decimal.Number.the-variants.{Given, Missing}
-use Rattle.format.proofs.Cases.{by-bool}
-use Rattle.format.proofs.Digits.{few-digits, given-digits}
-use Rattle.format.proofs.Fields.{hasNo, part-before, part-alone, two-parts}
+use Rattle.ascii.specs.Ascii.{ascii, within}
+use Rattle.ascii.specs.Decimal.{isDigit, allDigits, valueAfter}
+use Rattle.ascii.specs.Lines.{spaceByte}
+use Rattle.ascii.specs.Parts.{parts}
+use Rattle.ascii.specs.declared.decimal.Number.{Number}
+use Rattle.ascii.specs.declared.decimal.Number.the-variants.{Given, Missing}
+use Rattle.ascii.proofs.Cases.{by-bool}
+use Rattle.ascii.proofs.Digits.{few-digits, given-digits}
+use Rattle.ascii.proofs.Fields.{hasNo, part-before, part-alone, two-parts}
 use Rattle.replay.specs.Trace.{Line, list, store, reset, question, other, letterL, letterS, letterZ, letterQ, maxLine, maxDigits, shortNumber, asks, questionOf, alone, followed, lineOf, meaning}
 
 -- every byte is one of "0" to "9", which are 48 to 57

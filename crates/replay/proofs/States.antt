@@ -7,10 +7,10 @@ use lib.Dec.{eqb}
 use native.Mathlib.Omega.{arith}
 use lib.ListN.{length, replicate, length-append}
 use borrow.Author.Tests.{eq-eqb, ne-eqb, eqb-true}
-use Rattle.format.specs.Ascii.{ascii}
-use Rattle.format.specs.Lines.{newline}
-use Rattle.format.specs.Refusal.{refusal}
-use Rattle.format.proofs.Cases.{by-bool}
+use Rattle.ascii.specs.Ascii.{ascii}
+use Rattle.ascii.specs.Lines.{newline}
+use Rattle.ascii.specs.Refusal.{refusal}
+use Rattle.ascii.proofs.Cases.{by-bool}
 use Rattle.schedule.specs.Schedule.{wellFormed}
 use Rattle.schedule.specs.WordLayout.{leapWords, meant, wordsOf}
 use Rattle.schedule.proofs.Gaps.{blank-refused}

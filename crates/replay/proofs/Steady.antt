@@ -12,7 +12,7 @@ use Rattle.schedule.specs.Schedule.{Schedule, wellFormed, blankSchedule}
 use Rattle.schedule.specs.WordLayout.{meant, wordsOf}
 use Rattle.schedule.proofs.Gaps.{blank-refused}
 use Rattle.schedule.proofs.Meant.{blank-stands, words-stand}
-use Rattle.format.proofs.Cases.{by-bool}
+use Rattle.ascii.proofs.Cases.{by-bool}
 use Rattle.text.specs.Read.{readText}
 use Rattle.text.proofs.Sound.{accepted-well-formed}
 use Rattle.refusals.specs.Answer.{Answer, given, refused}

@@ -3,10 +3,10 @@
 use mathlib.Core.Path.{_≡_, refl, ap, _∙_}
 use mathlib.Core.List.{List, [], _∷_}
 use Prim.Native.String.{String}
-use Rattle.format.specs.Ascii.{ascii, within}
-use Rattle.format.specs.Decimal.{digitsIn, decimal, numberOf, allDigits, valueAfter}
-use Rattle.format.specs.Parts.{parts}
-use Rattle.format.specs.Refusal.{refusal}
+use Rattle.ascii.specs.Ascii.{ascii, within}
+use Rattle.ascii.specs.Decimal.{digitsIn, decimal, numberOf, allDigits, valueAfter}
+use Rattle.ascii.specs.Parts.{parts}
+use Rattle.ascii.specs.Refusal.{refusal}
 use Rattle.calendar.specs.Calendar.{isLeapYear, monthLengths, daysInMonth, monthStart}
 use Rattle.schedule.specs.Schedule.{gapsFit}
 use Rattle.text.specs.Read.{readFrom, readText}

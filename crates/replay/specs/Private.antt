@@ -3,7 +3,7 @@
 use Prim.Native.Nat.{ℕ}
 use mathlib.Core.Path.{_≡_}
 use mathlib.Core.List.{List}
-use Rattle.format.specs.Output.{PutsUpTo}
+use Rattle.ascii.specs.Output.{PutsUpTo}
 use Rattle.text.specs.Read.{readText}
 use Rattle.clock.specs.declared.UtsAnswer.{UtsAnswer}
 use Rattle.clock.specs.declared.UtsAnswer.the-variants as uts

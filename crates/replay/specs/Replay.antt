@@ -5,8 +5,8 @@ use mathlib.Core.Bool.{cond}
 use mathlib.Core.List.{List, [], _∷_, _++_}
 use lib.Dec.{eqb}
 use Rattle.refusals.specs.Refusals.{noLine}
-use Rattle.format.specs.Lines.{newline, twoNumbers}
-use Rattle.format.specs.Refusal.{refusal}
+use Rattle.ascii.specs.Lines.{newline, twoNumbers}
+use Rattle.ascii.specs.Refusal.{refusal}
 use Rattle.schedule.specs.Schedule.{blankSchedule}
 use Rattle.schedule.specs.WordLayout.{meant, wordsOf}
 use Rattle.text.specs.Read.{readText}

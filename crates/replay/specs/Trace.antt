@@ -5,11 +5,11 @@ use mathlib.Core.Bool.{cond}
 use mathlib.Core.List.{List, [], _∷_}
 use lib.Dec.{leb, eqb}
 use lib.ListN.{length}
-use Rattle.format.specs.Decimal.{numberOf}
-use Rattle.format.specs.declared.decimal.Number.{Number}
-use Rattle.format.specs.declared.decimal.Number.the-variants.{Given, Missing}
-use Rattle.format.specs.Parts.{parts}
-use Rattle.format.specs.Lines.{spaceByte}
+use Rattle.ascii.specs.Decimal.{numberOf}
+use Rattle.ascii.specs.declared.decimal.Number.{Number}
+use Rattle.ascii.specs.declared.decimal.Number.the-variants.{Given, Missing}
+use Rattle.ascii.specs.Parts.{parts}
+use Rattle.ascii.specs.Lines.{spaceByte}
 
 -- what a line says: use this text list; store the current list; go back to the stored one; the smoothed time of an MJD and microseconds; or it
 -- is no such line

@@ -1,7 +1,7 @@
 // A recorded trace of lines, replayed: lists that are used, stored and gone back to, and questions for smoothed time. Any bytes may be given.
 ghost use mathlib.Core.Path.{_≡_};
 ghost use lib.ListN.{length};
-ghost use Rattle.format.specs.Output.{PutsUpTo};
+ghost use Rattle.ascii.specs.Output.{PutsUpTo};
 ghost use Rattle.schedule.specs.Answers.{fitting, fitted};
 ghost use Rattle.stream.specs.Lines.{linesOf};
 ghost use Rattle.stream.specs.Stream.{answered, LinesAnswered};
@@ -12,11 +12,11 @@ ghost use Rattle.replay.specs.Private.{ofUts, ListUsed, LineReplayed};
 mod meaning; // meaning.rt: what a line says
 
 use crate::meaning::Said;
+use ascii::lines::put_two_numbers;
+use ascii::output::put;
+use ascii::parts::part_end;
+use ascii::refusal::put_refusal;
 use clock::UtsAnswer;
-use format::lines::put_two_numbers;
-use format::output::put;
-use format::parts::part_end;
-use format::refusal::put_refusal;
 use refusals::NO_LINE;
 use refusals::OUTPUT_SHORT;
 use schedule::Writing;

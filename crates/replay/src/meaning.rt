@@ -1,13 +1,13 @@
 // What a line of a trace says.
 ghost use mathlib.Core.Path.{_≡_};
-ghost use Rattle.format.specs.Parts.{parts};
-ghost use Rattle.format.specs.Lines.{spaceByte};
+ghost use Rattle.ascii.specs.Parts.{parts};
+ghost use Rattle.ascii.specs.Lines.{spaceByte};
 ghost use Rattle.replay.specs.Trace.{shortNumber, asks, questionOf, alone, followed, lineOf, meaning};
 ghost use Rattle.replay.specs.Private.{saidBy};
+use ascii::decimal::Number;
+use ascii::decimal::read_decimal;
+use ascii::parts::part_end;
 use clock::UtcMicros;
-use format::decimal::Number;
-use format::decimal::read_decimal;
-use format::parts::part_end;
 
 // The most bytes of a line before its LF.
 const MAX_LINE: usize = 4096;

@@ -3,8 +3,8 @@
 use Prim.Native.Nat.{ℕ}
 use mathlib.Core.Bool.{cond}
 use mathlib.Core.List.{List}
-use Rattle.format.specs.Ascii.{ascii}
-use Rattle.format.specs.Parts.{same}
+use Rattle.ascii.specs.Ascii.{ascii}
+use Rattle.ascii.specs.Parts.{same}
 use Rattle.shell.specs.declared.words.Own.{Own}
 use Rattle.shell.specs.declared.words.Own.the-variants.{Ask, Replay, Help, Other}
 

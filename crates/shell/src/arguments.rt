@@ -3,7 +3,7 @@ ghost use Prim.Native.Nat.{_≤_};
 ghost use lib.ListN.{length};
 ghost use Rattle.io.specs.Counts.{Counts};
 use crate::output::within;
-use format::output::put;
+use ascii::output::put;
 
 // Puts an argument behind the start of a line and returns how long the line is then: all of it where it has no room for the argument.
 fn put_argument(line: &mut [u8], at: usize, i: usize) -> usize

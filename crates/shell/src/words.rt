@@ -1,7 +1,7 @@
 // The words of the program's own, beside those of questions.
 ghost use mathlib.Core.Path.{_≡_};
 ghost use Rattle.shell.specs.Words.{ownOf};
-use format::parts::same;
+use ascii::parts::same;
 
 pub enum Own {
     Ask,

@@ -4,9 +4,9 @@ use mathlib.Core.Bool.{true}
 use mathlib.Core.List.{List, [], _∷_, _++_}
 use Prim.Native.Nat.{ℕ, _+_, _-_, _/_, _%_, _<_}
 use native.Mathlib.Omega.{arith}
-use Rattle.format.specs.Ascii.{ascii}
-use Rattle.format.specs.Decimal.{digitsIn, decimal, pair, withSign}
-use Rattle.format.specs.Lines.{between}
+use Rattle.ascii.specs.Ascii.{ascii}
+use Rattle.ascii.specs.Decimal.{digitsIn, decimal, pair, withSign}
+use Rattle.ascii.specs.Lines.{between}
 use Rattle.calendar.specs.Calendar.{InMonth, firstDay, daysInMonth, monthStart, monthOf}
 use Rattle.calendar.proofs.Laws.{start-next, start-last, late-month, is-month}
 use Rattle.schedule.specs.Schedule.{Leap, Schedule, wellFormed}

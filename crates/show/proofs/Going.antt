@@ -8,10 +8,10 @@ use native.Mathlib.Omega.{arith}
 use lib.ListN.{length, getD, drop, drop-of-length-le}
 use Rattle.calendar.specs.Calendar.{firstDay, lastMonth, monthStart}
 use Rattle.calendar.proofs.Laws.{start-zero, start-from, start-lt, start-min}
-use Rattle.format.specs.Output.{PutsUpTo}
-use Rattle.format.proofs.Putting.{up-to}
-use Rattle.format.proofs.LeftUpTo.{LeftUpTo, none-yet, more, with-rest}
-use Rattle.format.specs.Lines.{between}
+use Rattle.ascii.specs.Output.{PutsUpTo}
+use Rattle.ascii.proofs.Putting.{up-to}
+use Rattle.ascii.proofs.LeftUpTo.{LeftUpTo, none-yet, more, with-rest}
+use Rattle.ascii.specs.Lines.{between}
 use Rattle.schedule.specs.Schedule.{Schedule, noLeap, gapsFit, wellFormed}
 use Rattle.schedule.proofs.Gaps.{fits-lt, first, later, before-end, parts}
 use Rattle.schedule.proofs.WordLayout.{within}

@@ -3,8 +3,8 @@
 use Prim.Native.Nat.{ℕ}
 use mathlib.Core.Bool.{Bool}
 use mathlib.Core.List.{List, _++_}
-use Rattle.format.specs.Ascii.{ascii}
-use Rattle.format.specs.Lines.{between}
+use Rattle.ascii.specs.Ascii.{ascii}
+use Rattle.ascii.specs.Lines.{between}
 use Rattle.schedule.specs.Schedule.{Leap, Schedule}
 use Rattle.show.specs.Show.{dateOf, stretches}
 

@@ -4,13 +4,13 @@ use Prim.Native.Nat.{ℕ, _+_, _-_, _%_}
 use mathlib.Core.Bool.{Bool, cond}
 use mathlib.Core.List.{List, [], _∷_, _++_}
 use Rattle.refusals.specs.Refusals.{notWellFormed}
-use Rattle.format.specs.Ascii.{ascii, minusByte}
-use Rattle.format.specs.Decimal.{decimal, pair, withSign}
+use Rattle.ascii.specs.Ascii.{ascii, minusByte}
+use Rattle.ascii.specs.Decimal.{decimal, pair, withSign}
 use Rattle.calendar.specs.Calendar.{firstDay, yearOf, monthStart, monthOf}
 use Rattle.schedule.specs.Schedule.{Leap, Schedule, wellFormed}
 use Rattle.clock.specs.Days.{dtai}
-use Rattle.format.specs.Lines.{spaceByte, between}
-use Rattle.format.specs.Refusal.{refusal}
+use Rattle.ascii.specs.Lines.{spaceByte, between}
+use Rattle.ascii.specs.Refusal.{refusal}
 
 -- day d of month m as a date: year, month and day, as `1972-01-31`
 unfoldable pub date : ℕ → ℕ → List ℕ

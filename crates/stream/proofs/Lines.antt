@@ -9,11 +9,11 @@ use native.Mathlib.Decide.{decLe}
 use lib.Dec.{eqb}
 use lib.ListN.{length, take, drop, length-append, length-drop, drop-of-length-le}
 use lib.Seq.{length-take-le, drop-drop, take-append-le, drop-append-le, take-append-add, drop-append-add}
-use Rattle.format.specs.Parts.{firstPart, parts}
-use Rattle.format.proofs.Cases.{by-bool}
-use Rattle.format.proofs.Fields.{headOf, tailOf}
-use Rattle.format.proofs.Splitting.{last-part, more-parts}
-use Rattle.format.specs.Lines.{newline}
+use Rattle.ascii.specs.Parts.{firstPart, parts}
+use Rattle.ascii.proofs.Cases.{by-bool}
+use Rattle.ascii.proofs.Fields.{headOf, tailOf}
+use Rattle.ascii.proofs.Splitting.{last-part, more-parts}
+use Rattle.ascii.specs.Lines.{newline}
 use Rattle.stream.specs.Lines.{butLast, linesOf, sizeOf, rest}
 
 pub first-inside : (mark : ℕ) (bytes : List ℕ) → length (firstPart mark bytes) ≤ length bytes

@@ -9,11 +9,11 @@ use lib.Dec.{leb}
 use lib.ListN.{length, take, drop, length-append, length-drop}
 use lib.Seq.{length-take-le, drop-drop}
 use borrow.Author.Tests.{le-leb, lt-leb, leb-false}
-use Rattle.format.specs.Output.{Puts, PutsUpTo}
-use Rattle.format.specs.Parts.{firstPart}
-use Rattle.format.proofs.Cases.{by-bool}
-use Rattle.format.proofs.Putting.{nothing, two-puts, same-long, from-start}
-use Rattle.format.specs.Lines.{newline}
+use Rattle.ascii.specs.Output.{Puts, PutsUpTo}
+use Rattle.ascii.specs.Parts.{firstPart}
+use Rattle.ascii.proofs.Cases.{by-bool}
+use Rattle.ascii.proofs.Putting.{nothing, two-puts, same-long, from-start}
+use Rattle.ascii.specs.Lines.{newline}
 use Rattle.stream.specs.Lines.{linesOf, sizeOf}
 use Rattle.stream.specs.Stream.{Answering, printed, after, answered, LinesAnswered}
 use Rattle.stream.proofs.Lines as lines

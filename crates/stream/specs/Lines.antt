@@ -3,8 +3,8 @@
 use Prim.Native.Nat.{ℕ, _+_}
 use mathlib.Core.List.{List, [], _∷_}
 use lib.ListN.{length, drop}
-use Rattle.format.specs.Parts.{parts}
-use Rattle.format.specs.Lines.{newline}
+use Rattle.ascii.specs.Parts.{parts}
+use Rattle.ascii.specs.Lines.{newline}
 
 abbrev pub butLast : List (List ℕ) → List (List ℕ)
 butLast [] = []

@@ -6,7 +6,7 @@ use mathlib.Core.Bool.{cond}
 use mathlib.Core.List.{List, [], _∷_, _++_}
 use lib.Dec.{leb}
 use lib.ListN.{length}
-use Rattle.format.specs.Output.{filled}
+use Rattle.ascii.specs.Output.{filled}
 use Rattle.stream.specs.Lines.{sizeOf}
 use Rattle.stream.specs.declared.Step.{Step}
 

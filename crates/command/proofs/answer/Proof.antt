@@ -1,6 +1,6 @@
 -- `command::answer` meets its contract. Assumes nothing.
 use borrow.Author.Needs.{needs}
-use Rattle.format.proofs.Putting.{from-start}
+use Rattle.ascii.proofs.Putting.{from-start}
 use Rattle.command.proofs.answer.Statement.{statement}
 use Rattle.command.proofs.answer.Tie as tie
 

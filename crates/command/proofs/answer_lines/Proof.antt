@@ -4,7 +4,7 @@ use native.Mathlib.Omega.{arith}
 use Prim.Native.Nat.{_-_}
 use mathlib.Core.Path.{refl}
 use lib.ListN.{length}
-use Rattle.format.proofs.Putting.{up-to, a-byte}
+use Rattle.ascii.proofs.Putting.{up-to, a-byte}
 use Rattle.stream.proofs.Streams.{Going, begin, kept, full, end-inside, last, before-end, step}
 use Rattle.command.specs.Lines.{answerLine, asking}
 use Rattle.command.proofs.answer_lines.Statement.{statement}

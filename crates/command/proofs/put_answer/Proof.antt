@@ -3,8 +3,8 @@ use borrow.Author.Needs.{needs}
 use native.Mathlib.Omega.{arith}
 use mathlib.Core.Path.{sym, _∙_}
 use lib.Seq.{length-take-le}
-use Rattle.format.proofs.Putting.{few, text-put}
-use Rattle.format.proofs.Fields.{only, first-and-rest}
+use Rattle.ascii.proofs.Putting.{few, text-put}
+use Rattle.ascii.proofs.Fields.{only, first-and-rest}
 use Rattle.command.proofs.Fields.{no-fields, long-line, in-parts}
 use Rattle.command.proofs.put_answer.Statement.{statement}
 use Rattle.command.proofs.put_answer.Tie as tie

@@ -1,7 +1,7 @@
 -- `command::put_at_time` meets its contract: each word that takes a list, a day and a time. Assumes nothing.
 use borrow.Author.Needs.{needs}
 use native.Mathlib.Omega.{arith}
-use Rattle.format.proofs.Putting.{few}
+use Rattle.ascii.proofs.Putting.{few}
 use Rattle.command.proofs.put_at_time.Statement.{statement}
 use Rattle.command.proofs.put_at_time.Tie as tie
 

@@ -1,7 +1,7 @@
 -- `command::put_of_list` meets its contract: each word that takes a list alone. Assumes nothing.
 use borrow.Author.Needs.{needs}
 use native.Mathlib.Omega.{arith}
-use Rattle.format.proofs.Putting.{few}
+use Rattle.ascii.proofs.Putting.{few}
 use Rattle.command.specs.Answer.{ofList}
 use Rattle.command.proofs.put_of_list.Statement.{statement}
 use Rattle.command.proofs.put_of_list.Tie as tie

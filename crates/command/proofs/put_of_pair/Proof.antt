@@ -1,7 +1,7 @@
 -- `command::put_of_pair` meets its contract: a second list is the last field, and each word that takes two lists. Assumes nothing.
 use borrow.Author.Needs.{needs}
 use native.Mathlib.Omega.{arith}
-use Rattle.format.proofs.Putting.{few}
+use Rattle.ascii.proofs.Putting.{few}
 use mathlib.Core.Path.{_∙_}
 use Rattle.command.specs.Answer.{ofPair}
 use Rattle.command.proofs.Fields.{one-field, no-field}

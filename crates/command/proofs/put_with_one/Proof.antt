@@ -1,7 +1,7 @@
 -- `command::put_with_one` meets its contract: a form of one field, and the others. Assumes nothing.
 use borrow.Author.Needs.{needs}
 use native.Mathlib.Omega.{arith}
-use Rattle.format.proofs.Putting.{few}
+use Rattle.ascii.proofs.Putting.{few}
 use mathlib.Core.Path.{_∙_}
 use Rattle.command.proofs.Fields.{by-form, not-alone}
 use Rattle.command.proofs.put_with_one.Statement.{statement}

@@ -2,7 +2,7 @@
 use borrow.Author.Needs.{needs}
 use native.Mathlib.Omega.{arith}
 use mathlib.Core.Path.{refl}
-use Rattle.format.proofs.Putting.{up-to, a-byte}
+use Rattle.ascii.proofs.Putting.{up-to, a-byte}
 use Rattle.replay.specs.Replay.{shown}
 use Rattle.replay.proofs.put_refused.Statement.{statement}
 use Rattle.replay.proofs.put_refused.Tie as tie

@@ -1,7 +1,7 @@
 -- `replay::put_smoothed` meets its contract: the time, or the refusal. Assumes nothing.
 use borrow.Author.Needs.{needs}
 use native.Mathlib.Omega.{arith}
-use Rattle.format.proofs.Putting.{few}
+use Rattle.ascii.proofs.Putting.{few}
 use Rattle.replay.proofs.put_smoothed.Statement.{statement}
 use Rattle.replay.proofs.put_smoothed.Tie as tie
 

@@ -2,7 +2,7 @@
 use borrow.Author.Needs.{needs}
 use native.Mathlib.Omega.{arith}
 use mathlib.Core.Path.{refl}
-use Rattle.format.proofs.Putting.{up-to, a-byte, text-put}
+use Rattle.ascii.proofs.Putting.{up-to, a-byte, text-put}
 use Rattle.show.specs.Show.{date}
 use Rattle.show.proofs.put_date.Statement.{statement}
 use Rattle.show.proofs.put_date.Tie as tie

@@ -5,7 +5,7 @@ use mathlib.Core.Path.{_≡_, ap, _∙_}
 use Prim.Native.Nat.{ℕ, min}
 use Rattle.calendar.specs.Calendar.{lastMonth, monthStart, monthOf}
 use Rattle.calendar.proofs.Laws.{start-min, month-most, month-started}
-use Rattle.format.proofs.Putting.{same-long}
+use Rattle.ascii.proofs.Putting.{same-long}
 use Rattle.show.specs.Show.{dateOf}
 use Rattle.show.proofs.put_day.Statement.{statement}
 use Rattle.show.proofs.put_day.Tie as tie

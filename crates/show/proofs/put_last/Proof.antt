@@ -9,7 +9,7 @@ use Rattle.schedule.specs.Schedule.{wellFormed}
 use Rattle.schedule.specs.WordLayout.{expiryWord, meant}
 use Rattle.schedule.proofs.Gaps.{parts}
 use Rattle.schedule.proofs.Meant.{expiry-is}
-use Rattle.format.proofs.Putting.{up-to, text-put}
+use Rattle.ascii.proofs.Putting.{up-to, text-put}
 use Rattle.show.specs.Show.{stretches}
 use Rattle.show.specs.Private.{shownFrom}
 use Rattle.show.proofs.put_last.Statement.{statement}

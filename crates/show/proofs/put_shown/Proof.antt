@@ -1,7 +1,7 @@
 -- `show::put_shown` meets its contract: the words are a list, or they are not. Assumes nothing.
 use borrow.Author.Needs.{needs}
 use native.Mathlib.Omega.{arith}
-use Rattle.format.proofs.Putting.{few}
+use Rattle.ascii.proofs.Putting.{few}
 use Rattle.refusals.proofs.Checks.{passed, failed}
 use Rattle.show.specs.Show.{shown}
 use Rattle.show.specs.Private.{shownFrom}

@@ -4,7 +4,7 @@ use native.Mathlib.Omega.{arith}
 use mathlib.Core.Path.{refl}
 use Rattle.schedule.specs.WordLayout.{meant}
 use Rattle.schedule.proofs.Gaps.{parts}
-use Rattle.format.proofs.Putting.{up-to, a-byte}
+use Rattle.ascii.proofs.Putting.{up-to, a-byte}
 use Rattle.show.specs.Show.{stretch}
 use Rattle.show.proofs.Known.{dtai-kept}
 use Rattle.show.proofs.put_stretch.Statement.{statement}

@@ -6,7 +6,7 @@ use mathlib.Core.List.{List}
 use native.Mathlib.Omega.{arith}
 use Prim.Native.Nat.{ℕ, _-_, _<_, min}
 use lib.ListN.{length, getD}
-use Rattle.format.proofs.Putting.{same-long}
+use Rattle.ascii.proofs.Putting.{same-long}
 use Rattle.schedule.specs.Schedule.{Leap, lastMonth, monthStart, noLeap, wellFormed}
 use Rattle.schedule.specs.WordLayout.{countWord, monthWord, meant}
 use Rattle.schedule.proofs.Meant.{count-is, leap-at}

@@ -1,9 +1,9 @@
 -- `answers::lists::put_list_nybbles` meets its contract: the list is refused, or it is put as nybbles. Assumes nothing.
 use borrow.Author.Needs.{needs}
 use native.Mathlib.Omega.{arith}
-use Rattle.format.proofs.Putting.{few}
+use Rattle.ascii.proofs.Putting.{few}
 use Rattle.text.proofs.Sound.{read-formed}
-use Rattle.format.specs.Refusal.{refusalAt}
+use Rattle.ascii.specs.Refusal.{refusalAt}
 use Rattle.schedule.proofs.ByReading.{read-well, read-leaves-gap, read-refused, read-taken}
 use Rattle.answers.proofs.lists.put_list_nybbles.Statement.{statement}
 use Rattle.answers.proofs.lists.put_list_nybbles.Tie as tie

@@ -5,9 +5,9 @@ use mathlib.Core.Path.{sym, ap}
 use mathlib.Core.List.{List}
 use Prim.Native.Nat.{ℕ}
 use lib.ListN.{replicate}
-use Rattle.format.specs.Hex.{hex}
-use Rattle.format.proofs.Putting.{text-put}
-use Rattle.format.proofs.Halves.{hex-length}
+use Rattle.ascii.specs.Hex.{hex}
+use Rattle.ascii.proofs.Putting.{text-put}
+use Rattle.ascii.proofs.Halves.{hex-length}
 use Rattle.schedule.specs.WordLayout.{meant}
 use Rattle.nybbles.specs.Write.{nybblesOf}
 use Rattle.nybbles.proofs.Room.{at-most}

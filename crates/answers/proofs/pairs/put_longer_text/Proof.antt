@@ -2,7 +2,7 @@
 use borrow.Author.Needs.{needs}
 use native.Mathlib.Omega.{arith}
 use mathlib.Core.Path.{sym, _∙_}
-use Rattle.format.proofs.Putting.{few, text-put}
+use Rattle.ascii.proofs.Putting.{few, text-put}
 use Rattle.answers.proofs.Chosen.{first-few, second-few, by-first, by-second, by-refused}
 use Rattle.answers.proofs.pairs.put_longer_text.Statement.{statement}
 use Rattle.answers.proofs.pairs.put_longer_text.Tie as tie

@@ -1,10 +1,10 @@
 -- `answers::times::put_asked` meets its contract: the list is refused, or it is asked. Assumes nothing.
 use borrow.Author.Needs.{needs}
 use native.Mathlib.Omega.{arith}
-use Rattle.format.proofs.Putting.{few}
+use Rattle.ascii.proofs.Putting.{few}
 use Rattle.text.proofs.Sound.{read-formed}
 use Rattle.answers.specs.Times.{askedUnder}
-use Rattle.format.specs.Refusal.{refusalAt}
+use Rattle.ascii.specs.Refusal.{refusalAt}
 use Rattle.schedule.proofs.ByReading.{read-refused, read-taken}
 use Rattle.answers.proofs.times.put_asked.Statement.{statement}
 use Rattle.answers.proofs.times.put_asked.Tie as tie

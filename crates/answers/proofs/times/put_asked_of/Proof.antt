@@ -1,7 +1,7 @@
 -- `answers::times::put_asked_of` meets its contract: each question is answered by the clock's function for it. Assumes nothing.
 use borrow.Author.Needs.{needs}
 use native.Mathlib.Omega.{arith}
-use Rattle.format.proofs.Putting.{few}
+use Rattle.ascii.proofs.Putting.{few}
 use Rattle.answers.proofs.Told.{of-dtai, of-tai, of-utc, of-uts, of-micros}
 use Rattle.answers.proofs.times.put_asked_of.Statement.{statement}
 use Rattle.answers.proofs.times.put_asked_of.Tie as tie

@@ -5,8 +5,8 @@ use mathlib.Core.Path.{_≡_, sym, ap}
 use mir.Syntax.{w32}
 use mir.Val.{toZ, ofZ}
 use mir.ValLaws.{toZ-ofZ}
-use Rattle.format.specs.Decimal.{signed}
-use Rattle.format.proofs.Putting.{few}
+use Rattle.ascii.specs.Decimal.{signed}
+use Rattle.ascii.proofs.Putting.{few}
 use Rattle.answers.proofs.times.put_dtai.Statement.{statement}
 use Rattle.answers.proofs.times.put_dtai.Tie as tie
 

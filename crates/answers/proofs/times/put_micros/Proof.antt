@@ -1,7 +1,7 @@
 -- `answers::times::put_micros` meets its contract: the values, or the refusal. Assumes nothing.
 use borrow.Author.Needs.{needs}
 use native.Mathlib.Omega.{arith}
-use Rattle.format.proofs.Putting.{few}
+use Rattle.ascii.proofs.Putting.{few}
 use Rattle.answers.proofs.times.put_micros.Statement.{statement}
 use Rattle.answers.proofs.times.put_micros.Tie as tie
 

@@ -2,10 +2,10 @@
 use borrow.Author.Needs.{needs}
 use borrow.Author.Tests.{not-true, not-false}
 use native.Mathlib.Omega.{arith}
-use Rattle.format.proofs.Putting.{few}
+use Rattle.ascii.proofs.Putting.{few}
 use Rattle.nybbles.proofs.Sound.{read-formed}
 use Rattle.command.specs.Answer.{ofHex}
-use Rattle.format.specs.Refusal.{refusalAt}
+use Rattle.ascii.specs.Refusal.{refusalAt}
 use Rattle.schedule.proofs.ByReading.{read-well, read-leaves-gap, read-refused, read-taken}
 use Rattle.command.proofs.lists.put_hex_as_text.Statement.{statement}
 use Rattle.command.proofs.lists.put_hex_as_text.Tie as tie

@@ -1,8 +1,8 @@
 -- `command::lists::put_list_shown` meets its contract: the list is refused, or it is shown. Assumes nothing.
 use borrow.Author.Needs.{needs}
 use native.Mathlib.Omega.{arith}
-use Rattle.format.specs.Refusal.{refusalAt}
-use Rattle.format.proofs.Putting.{few}
+use Rattle.ascii.specs.Refusal.{refusalAt}
+use Rattle.ascii.proofs.Putting.{few}
 use Rattle.text.proofs.Sound.{read-formed}
 use Rattle.schedule.proofs.ByReading.{read-refused, read-taken}
 use Rattle.command.proofs.lists.put_list_shown.Statement.{statement}

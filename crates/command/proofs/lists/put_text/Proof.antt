@@ -5,7 +5,7 @@ use mathlib.Core.List.{List}
 use Prim.Native.Nat.{ℕ}
 use lib.ListN.{replicate}
 use Rattle.schedule.specs.WordLayout.{meant}
-use Rattle.format.proofs.Putting.{text-put}
+use Rattle.ascii.proofs.Putting.{text-put}
 use Rattle.text.specs.Write.{textOf}
 use Rattle.text.proofs.Room.{at-most}
 use Rattle.answers.proofs.Held.{inside, holds, all-held}

@@ -3,7 +3,7 @@ use borrow.Author.Needs.{needs}
 use native.Mathlib.Omega.{arith}
 use mathlib.Core.Path.{sym, ap, _∙_}
 use lib.ListN.{length}
-use Rattle.format.proofs.Putting.{whole, same-long}
+use Rattle.ascii.proofs.Putting.{whole, same-long}
 use Rattle.command.proofs.Unhexed.{unhex-length}
 use Rattle.command.proofs.lists.read_hex.Statement.{statement}
 use Rattle.command.proofs.lists.read_hex.Tie as tie

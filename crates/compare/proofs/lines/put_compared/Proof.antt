@@ -2,8 +2,8 @@
 use borrow.Author.Needs.{needs}
 use native.Mathlib.Omega.{arith}
 use mathlib.Core.Path.{sym, ap, _∙_}
-use Rattle.format.specs.Decimal.{decimal}
-use Rattle.format.proofs.Putting.{few}
+use Rattle.ascii.specs.Decimal.{decimal}
+use Rattle.ascii.proofs.Putting.{few}
 use Rattle.compare.proofs.Bytes.{joined-bytes}
 use Rattle.compare.proofs.TwoTexts.{refused, taken, formed}
 use Rattle.compare.proofs.lines.put_compared.Statement.{statement}

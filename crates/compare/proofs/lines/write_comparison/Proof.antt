@@ -1,6 +1,6 @@
 -- `compare::lines::write_comparison` meets its contract: the local output has room for every comparison. Assumes nothing.
 use borrow.Author.Needs.{needs}
-use Rattle.format.proofs.Putting.{both, one-put}
+use Rattle.ascii.proofs.Putting.{both, one-put}
 use Rattle.compare.proofs.Bytes.{compared-bytes}
 use Rattle.compare.proofs.Room.{at-most}
 use Rattle.compare.proofs.Held.{all-held, too-short, put-out}

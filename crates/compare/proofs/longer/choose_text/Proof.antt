@@ -1,7 +1,7 @@
 -- `compare::longer::choose_text` meets its contract. Assumes nothing.
 use borrow.Author.Needs.{needs}
 use mathlib.Core.Path.{sym, ap, _∙_}
-use Rattle.format.proofs.Splitting.{same-is}
+use Rattle.ascii.proofs.Splitting.{same-is}
 use Rattle.compare.specs.declared.longer.Chosen.the-variants.{Refused}
 use Rattle.compare.specs.Longer.{chosenOf, chosen}
 use Rattle.compare.proofs.TwoTexts.{refused, taken, formed}

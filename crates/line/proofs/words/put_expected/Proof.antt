@@ -2,7 +2,7 @@
 use borrow.Author.Needs.{needs}
 use native.Mathlib.Omega.{arith}
 use mathlib.Core.Path.{refl}
-use Rattle.format.proofs.Putting.{up-to, text-put}
+use Rattle.ascii.proofs.Putting.{up-to, text-put}
 use Rattle.line.specs.Words.{expected}
 use Rattle.line.proofs.words.put_expected.Statement.{statement}
 use Rattle.line.proofs.words.put_expected.Tie as tie

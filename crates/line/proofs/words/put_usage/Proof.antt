@@ -1,7 +1,7 @@
 -- `line::words::put_usage` meets its contract: the text of each word. Assumes nothing.
 use borrow.Author.Needs.{needs}
 use native.Mathlib.Omega.{arith}
-use Rattle.format.proofs.Putting.{text-put}
+use Rattle.ascii.proofs.Putting.{text-put}
 use Rattle.line.specs.Words.{usage}
 use Rattle.line.proofs.words.put_usage.Statement.{statement}
 use Rattle.line.proofs.words.put_usage.Tie as tie

@@ -3,7 +3,7 @@ use borrow.Author.Needs.{needs}
 use native.Mathlib.Omega.{arith}
 use mathlib.Core.Path.{sym, _∙_}
 use lib.Seq.{length-take-le}
-use Rattle.format.proofs.Fields.{only, first-and-rest}
+use Rattle.ascii.proofs.Fields.{only, first-and-rest}
 use Rattle.replay.proofs.Saying.{last-field}
 use Rattle.replay.proofs.meaning.question_of.Statement.{statement}
 use Rattle.replay.proofs.meaning.question_of.Tie as tie

@@ -1,9 +1,0 @@
--- `format::decimal::within` meets its contract. Assumes nothing.
-use borrow.Author.Tests.{lt-leb, le-leb}
-use Rattle.format.specs.Ascii.{within}
-use Rattle.format.proofs.decimal.within.Statement.{statement}
-use Rattle.format.proofs.decimal.within.Tie as tie
-
-pub within-spec : {M : Type 1} → statement M
-unfolding within
-within-spec = tie.close (tie.spec (λ c. simp (lt-leb _ _ (c .if1 .taken))) (λ c. simp (le-leb _ _ (c .if1 .left))))
