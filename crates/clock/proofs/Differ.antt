@@ -1,15 +1,13 @@
 -- Demand 3, two lists: no question gets two different answers exactly when one extends the other; else some date has two DTAI.
 -- Assumes nothing.
-use mathlib.Core.Bool.{Bool, true, false, cond, _&&_}
+use mathlib.Core.Bool.{true, _&&_}
 use mathlib.Core.List.{List, [], _∷_}
 use mathlib.Core.Logic.{_⊎_, inl, inr, ⊎-elim, _≢_, _↔_}
 use mathlib.Core.Path.{_≡_, refl, sym, ap, _∙_, subst}
-use Prim.Native.Nat.{ℕ, suc, _+_, _-_, _≤_, _<_}
+use Prim.Native.Nat.{ℕ, _+_, _-_, _≤_, _<_}
 use native.Mathlib.Decide.{decLt}
 use native.Mathlib.Omega.{arith}
-use lib.Dec.{ltb}
-use lib.IntN.{pos, negsuc, subℕ}
-use borrow.Author.Tests.{ltb-true, ltb-false, le-leb}
+use borrow.Author.Tests.{le-leb}
 use Rattle.refusals.specs.Refusals.{before1972, notKnown, notWellFormed}
 use Rattle.calendar.specs.Calendar.{firstDay, monthStart}
 use Rattle.calendar.proofs.Laws.{start-zero, start-lt}
@@ -22,7 +20,7 @@ use Rattle.schedule.proofs.Expired.{is-expired, not-expired}
 use Rattle.schedule.proofs.Extension.{below-none}
 use Rattle.clock.specs.Days.{firstDtai, dtai}
 use Rattle.clock.proofs.Tally.{count, tally}
-use Rattle.clock.proofs.Tallied.{dtai-tallied}
+use Rattle.clock.proofs.Tallied.{minus-same, dtai-tallied}
 use Rattle.clock.specs.Known.{lastDay}
 use Rattle.refusals.specs.Answer.{given}
 use Rattle.clock.specs.Question.{DTAI, ask}
@@ -30,16 +28,6 @@ use Rattle.clock.specs.Lists.{Agreed, Parted}
 use Rattle.clock.proofs.Leaps.{not-yet, tally-none}
 use Rattle.refusals.proofs.Checks.{pass, given-is}
 use Rattle.clock.proofs.Agree.{keeps}
-
--- the difference of two counts tells them apart
-minus-same : (a b c d : ℕ) → subℕ a b ≡ subℕ c d → a + d ≡ c + b
-minus-same a b c d = go (ltb a b) (ltb c d) refl refl
-  where
-    go : (x y : Bool) → ltb a b ≡ x → ltb c d ≡ y → cond x (negsuc (b - suc a)) (pos (a - b)) ≡ cond y (negsuc (d - suc c)) (pos (c - d)) → a + d ≡ c + b
-    go true true p q h = let z : b - suc a ≡ d - suc c = cc in omega (arith, ltb-true a b p, ltb-true c d q)
-    go true false p q h = let z : _≡_ {A = ℕ} 0 1 = cc in omega arith
-    go false true p q h = let z : _≡_ {A = ℕ} 0 1 = cc in omega arith
-    go false false p q h = let z : a - b ≡ c - d = cc in omega (arith, ltb-false a b p, ltb-false c d q)
 
 -- ---- the tallies on the day of a list's first leap
 

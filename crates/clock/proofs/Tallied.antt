@@ -77,6 +77,16 @@ times-cut x a b = go (ltb a b) refl
     go true e = let l = ltb-true a b e in cut-off x (microsPerSecond * suc (b - suc a)) ∙ omega arith
     go false e = let l = ltb-false a b e in omega arith
 
+-- the difference of two counts tells them apart
+pub minus-same : (a b c d : ℕ) → subℕ a b ≡ subℕ c d → a + d ≡ c + b
+minus-same a b c d = go (ltb a b) (ltb c d) refl refl
+  where
+    go : (x y : Bool) → ltb a b ≡ x → ltb c d ≡ y → cond x (negsuc (b - suc a)) (pos (a - b)) ≡ cond y (negsuc (d - suc c)) (pos (c - d)) → a + d ≡ c + b
+    go true true p q h = let z : b - suc a ≡ d - suc c = cc in omega (arith, ltb-true a b p, ltb-true c d q)
+    go true false p q h = let z : _≡_ {A = ℕ} 0 1 = cc in omega arith
+    go false true p q h = let z : _≡_ {A = ℕ} 0 1 = cc in omega arith
+    go false false p q h = let z : a - b ≡ c - d = cc in omega (arith, ltb-false a b p, ltb-false c d q)
+
 -- ---- DTAI
 
 -- one leap, by whether it is in effect

@@ -4,6 +4,7 @@ pub mod Looked
 pub mod Places
 pub mod Told
 pub mod Near
+pub mod Held
 pub mod Said
 pub mod Signs
 pub mod Signed

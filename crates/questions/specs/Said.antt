@@ -3,13 +3,13 @@
 -- Assumes nothing: these are definitions.
 use mathlib.Core.Bool.{Bool, true, cond}
 use mathlib.Core.Path.{_≡_}
-use Prim.Native.Nat.{ℕ, _+_, _-_, _*_, _/_, _≤_, min}
+use Prim.Native.Nat.{ℕ, _+_, _-_, _*_, _/_, _^_, _≤_, min}
 use lib.Dec.{leb, ltb}
 use lib.IntN.{ℤ, subℕ}
 use Rattle.refusals.specs.Refusals.{before1972, notKnown, notWellFormed}
 use Rattle.calendar.specs.Calendar.{firstDay, endDay}
 use Rattle.schedule.specs.Schedule.{Schedule, wellFormed}
-use Rattle.clock.specs.Days.{microsPerDay, firstDtai, dtai, ending, dayLength, taiWith}
+use Rattle.clock.specs.Days.{microsPerSecond, microsPerDay, shortDay, firstDtai, dtai, ending, dayLength}
 use Rattle.clock.specs.Smoothed.{uts, utcOf}
 use Rattle.clock.specs.Known.{lastDay, taiCutoff, utsCutoff, knownTo}
 use Rattle.refusals.specs.Answer.{Answer, given, require}
@@ -40,17 +40,21 @@ pub record DayFor (s : Schedule) (day : ℕ) (k : Day) : Type 0 where
 
 -- ---- what is answered by it
 
--- no list knows a day after the calendar's last
-abbrev pub inCalendar : ℕ → ℕ
-inCalendar last = min last (endDay - 1)
+-- a - b as 64 bits hold it, with 2^64 more where it is below zero. By what a list says it never is (`tai-said`, `utc-said`).
+abbrev pub held : ℕ → ℕ → ℕ
+held a b = cond (leb b a) (a - b) (2 ^ 64 + a - b)
+
+-- TAI by the DTAI that is said, t microseconds into a day of the calendar: 86,400,000,000 x (MJD - 41317) + t + 1,000,000 x DTAI
+abbrev pub taiSaid : Day → ℕ → ℕ → ℕ
+taiSaid k day t = held (microsPerDay * day + t + microsPerSecond * (firstDtai + k .up)) (microsPerDay * firstDay + microsPerSecond * k .down)
 
 -- DTAI for a date
 abbrev pub dtaiBy : Day → ℕ → Answer ℤ
 dtaiBy k day = atDate (k .well) (k .last) day (dtaiSaid k)
 
--- UTC to TAI
+-- UTC to TAI; no list ends past the calendar
 abbrev pub taiBy : Day → ℕ → ℕ → Answer ℕ
-taiBy k day t = atUtc (k .well) (inCalendar (k .last)) (k .ending) taiCutoff day t (taiWith (dtaiSaid k) day t)
+taiBy k day t = require (ltb (k .last) endDay) notWellFormed (atUtc (k .well) (k .last) (k .ending) taiCutoff day t (taiSaid k day t))
 
 -- UTC to UTS; and before the last 1,001 s of a day, by whether words are a list, and its last day
 abbrev pub utsBy : Day → ℕ → ℕ → Answer ℕ
@@ -77,15 +81,16 @@ nearDay x last = min (firstDay + (x - mostDtai) / microsPerDay) last
 abbrev pub onDay : ℕ → ℕ → ℕ → Answer Utc
 onDay day t last = require (knownTo last taiCutoff day t) notKnown (given (record { day = day; micros = t }))
 
--- the instant t microseconds after a day's start: it lies on that day, or on the next
+-- the instant t microseconds after a day's start: it lies on that day, or on the next; in the first 86,399 s, which every day has, it is known
 abbrev pub fromStart : Day → ℕ → ℕ → Answer Utc
-fromStart k day t = cond (ltb t (dayLength (k .ending))) (onDay day t (k .last)) (onDay (day + 1) (t - dayLength (k .ending)) (k .last))
+fromStart k day t =
+    cond (ltb t shortDay) (given (record { day = day; micros = t }))
+    (cond (ltb t (dayLength (k .ending))) (onDay day t (k .last)) (onDay (day + 1) (t - dayLength (k .ending)) (k .last)))
 
--- TAI to UTC, by the day near it: 11, 8, 10; and then the instant so far after that day's start
+-- TAI to UTC, by the day near it: 11, 8, 10 where that day lies past the calendar; and then the instant so far after that day's start
 abbrev pub utcBy : Day → ℕ → ℕ → Answer Utc
 utcBy k near x =
     require (k .well) notWellFormed
     (require (leb firstTai x) before1972
-    (require (leb firstDay near) before1972
-    (require (leb near (inCalendar (k .last))) notKnown
-    (fromStart k near (x - taiWith (dtaiSaid k) near 0)))))
+    (require (ltb near endDay) notKnown
+    (fromStart k near (held x (taiSaid k near 0)))))

@@ -2,12 +2,12 @@
 // list prepared.
 ghost use mathlib.Core.Path.{_≡_};
 ghost use Prim.Native.Nat.{_-_, _≤_, _<_, min};
+ghost use Rattle.clock.specs.Days.{shortDay};
 ghost use Rattle.calendar.specs.Calendar.{endDay};
 ghost use Rattle.clock.specs.Answers.{Kept, dtaiAnswer, taiAnswer, utcAnswer, utsAnswer, microsAnswer};
 ghost use Rattle.questions.specs.Said.{dtaiSaid, dtaiBy, taiBy, utsBy, earlyUts, microsBy, earlyMicros, nearDay, onDay, fromStart, utcBy};
 use crate::days::date_refusal;
 use crate::days::day_length;
-use crate::days::less;
 use crate::days::tai_at;
 use crate::days::wide;
 use crate::instants::instant_refusal;
@@ -37,6 +37,7 @@ use clock::UtsNanos;
 use refusals::BEFORE_1972;
 use refusals::NOT_KNOWN;
 use refusals::NOT_WELL_FORMED;
+use std::num::wrapping_sub_u64;
 
 // No DTAI is above 266 s: in microseconds.
 const MOST_DTAI: u64 = 266_000_000;
@@ -106,9 +107,12 @@ pub fn dtai_on(k: Day, day: u64) -> DtaiAnswer
 pub fn tai_on(k: Day, day: u64, micros: u64) -> TaiAnswer
     ensures { λ r. ⌜ r ≡ taiAnswer (taiBy k day micros) ⌝ }
 {
+    // No list ends so late.
+    if END_DAY <= k.last {
+        return TaiAnswer::Refused(NOT_WELL_FORMED);
+    }
     let w = k.ending;
-    let last = smaller(k.last, END_DAY - 1);
-    let number = utc_refusal(k.well, last, w, TAI_CUTOFF, day, micros);
+    let number = utc_refusal(k.well, k.last, w, TAI_CUTOFF, day, micros);
     if number != 0 {
         return TaiAnswer::Refused(number);
     }
@@ -173,10 +177,10 @@ fn on_day(day: u64, t: u64, last: u64) -> UtcAnswer
     UtcAnswer::Refused(NOT_KNOWN)
 }
 
-// The instant t microseconds after a day's start, by the day's length. It stands apart, so that `utc_on` is small enough for the compiler to put
-// it into the loop of many.
+// The instant t microseconds after a day's start, from 86,399 s on. It stands apart, so that `utc_on` is small enough for the compiler to put it
+// into the loop of many.
 fn late_from_start(k: Day, day: u64, t: u64) -> UtcAnswer
-    requires { ⌜ day < endDay ⌝ }
+    requires { ⌜ (day < endDay) × (shortDay ≤ t) ⌝ }
     ensures { λ r. ⌜ r ≡ utcAnswer (fromStart k day t) ⌝ }
 {
     let w = k.ending;
@@ -185,18 +189,6 @@ fn late_from_start(k: Day, day: u64, t: u64) -> UtcAnswer
         return on_day(day + 1, t - length, k.last);
     }
     on_day(day, t, k.last)
-}
-
-// The instant t microseconds after a day's start: it lies on that day, or on the next.
-fn from_start(k: Day, day: u64, t: u64) -> UtcAnswer
-    requires { ⌜ (day ≤ k .last) × (day < endDay) ⌝ }
-    ensures { λ r. ⌜ r ≡ utcAnswer (fromStart k day t) ⌝ }
-{
-    // Every day has so much, however it ends, and on the last day it is known.
-    if t < SHORT_DAY {
-        return UtcAnswer::Given(day, UtcMicros(t));
-    }
-    late_from_start(k, day, t)
 }
 
 // TAI to UTC, by the day near it: the one instant whose TAI it is. It lies on that day or on the next.
@@ -209,11 +201,14 @@ pub fn utc_on(k: Day, near: u64, tai: u64) -> UtcAnswer
     if tai < FIRST_TAI {
         return UtcAnswer::Refused(BEFORE_1972);
     }
-    if near < FIRST_DAY {
-        return UtcAnswer::Refused(BEFORE_1972);
-    }
-    if smaller(k.last, END_DAY - 1) < near {
+    // No list knows so late a day.
+    if END_DAY <= near {
         return UtcAnswer::Refused(NOT_KNOWN);
     }
-    from_start(k, near, less(tai, tai_at(k, near, 0)))
+    let t = wrapping_sub_u64(tai, tai_at(k, near, 0));
+    // Every day has so much, however it ends, and on the last day it is known.
+    if t < SHORT_DAY {
+        return UtcAnswer::Given(near, UtcMicros(t));
+    }
+    late_from_start(k, near, t)
 }

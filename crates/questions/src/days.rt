@@ -5,10 +5,10 @@ ghost use Prim.Native.Nat.{_-_, _≤_, _<_};
 ghost use Rattle.calendar.specs.Calendar.{firstDay, endDay};
 ghost use Rattle.schedule.specs.Schedule.{wellFormed};
 ghost use Rattle.schedule.specs.WordLayout.{meant};
-ghost use Rattle.clock.specs.Days.{longDay, dayLength, taiWith};
+ghost use Rattle.clock.specs.Days.{longDay, dayLength};
 ghost use Rattle.clock.specs.Known.{lastDay};
 ghost use Rattle.clock.specs.Question.{atDate};
-ghost use Rattle.questions.specs.Said.{dtaiSaid, DayFor};
+ghost use Rattle.questions.specs.Said.{taiSaid, DayFor};
 ghost use Rattle.questions.specs.Private.{told};
 use crate::by_day::Day;
 use crate::look::look;
@@ -22,22 +22,13 @@ use clock::SHORT_DAY;
 use refusals::BEFORE_1972;
 use refusals::NOT_KNOWN;
 use refusals::NOT_WELL_FORMED;
+use std::num::wrapping_sub_u64;
 
 // A count as a wider number.
 pub(crate) fn wide(x: u16) -> u32
     ensures { λ r. ⌜ (r ≡ x) × (r < 65_536) ⌝ }
 {
     x as u32
-}
-
-// How much a number is above another, and 0 where it is below.
-pub(crate) fn less(a: u64, b: u64) -> u64
-    ensures { λ r. ⌜ r ≡ a - b ⌝ }
-{
-    if a < b {
-        return 0;
-    }
-    a - b
 }
 
 // A day's length in microseconds.
@@ -75,13 +66,12 @@ pub(crate) fn date_refusal(well: bool, last: u64, date: u64) -> u8
     0
 }
 
-// TAI, t microseconds into a day of the calendar.
+// TAI, t microseconds into a day of the calendar. Of counts that no list has by then the difference may wrap.
 pub(crate) fn tai_at(k: Day, day: u64, t: u64) -> u64
-    requires { ⌜ (firstDay ≤ day) × (day < endDay) × (t < longDay) ⌝ }
-    ensures { λ r. ⌜ r ≡ taiWith (dtaiSaid k) day t ⌝ }
+    requires { ⌜ (day < endDay) × (t < longDay) ⌝ }
+    ensures { λ r. ⌜ r ≡ taiSaid k day t ⌝ }
 {
-    let raised = MICROS_PER_DAY * (day - FIRST_DAY)
-        + t
-        + MICROS_PER_SECOND * (FIRST_DTAI + wide(k.up)) as u64;
-    less(raised, MICROS_PER_SECOND * wide(k.down) as u64)
+    let raised = MICROS_PER_DAY * day + t + MICROS_PER_SECOND * (FIRST_DTAI + wide(k.up)) as u64;
+    let lowered = MICROS_PER_DAY * FIRST_DAY + MICROS_PER_SECOND * wide(k.down) as u64;
+    wrapping_sub_u64(raised, lowered)
 }
