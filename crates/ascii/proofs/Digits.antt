@@ -12,7 +12,8 @@ use borrow.Author.Tests.{ltb-true, ltb-false, lt-ltb, le-ltb, leb-true, le-leb, 
 use Rattle.ascii.specs.Ascii.{within}
 use Rattle.ascii.specs.declared.decimal.Number.{Number}
 use Rattle.ascii.specs.declared.decimal.Number.the-variants.{Given, Missing}
-use Rattle.ascii.specs.Decimal.{digit, digitsIn, decimal, pair, eight, isDigit, allDigits, valueAfter, isEmpty, maxNumber, isNumber, numberOf}
+use Rattle.ascii.specs.Decimal.{digit, digitsIn, decimal, pair, isDigit, allDigits, valueAfter, isEmpty, maxNumber, isNumber, numberOf}
+use Rattle.ascii.specs.Private.{eight}
 use Rattle.ascii.proofs.Cases.{by-bool}
 use Rattle.ascii.proofs.Lists.{uncons}
 

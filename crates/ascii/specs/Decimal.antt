@@ -26,10 +26,6 @@ decimal n = digitsIn (suc n) n
 abbrev pub pair : ℕ → List ℕ
 pair n = digit (n / 10 % 10) ∷ digit (n % 10) ∷ []
 
--- the last eight digits of a number
-abbrev pub eight : ℕ → List ℕ
-eight n = pair (n / 1_000_000) ++ (pair (n / 10_000) ++ (pair (n / 100) ++ pair n))
-
 -- an integer: `-` where it is below zero
 abbrev pub signed : ℤ → List ℕ
 signed (pos n) = decimal n

@@ -5,3 +5,4 @@ pub mod Hex
 pub mod Parts
 pub mod Lines
 pub mod Refusal
+pub mod Private

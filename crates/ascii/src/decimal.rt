@@ -5,7 +5,8 @@ ghost use Prim.Native.Nat.{_-_, _<_};
 ghost use lib.IntN.{natAbs};
 ghost use Rattle.ascii.specs.Output.{Puts, PutsUpTo};
 ghost use Rattle.ascii.specs.Ascii.{within, zeroByte};
-ghost use Rattle.ascii.specs.Decimal.{digit, decimal, pair, eight, signed, withSign, isDigit, numberOf};
+ghost use Rattle.ascii.specs.Decimal.{digit, decimal, pair, signed, withSign, isDigit, numberOf};
+ghost use Rattle.ascii.specs.Private.{eight};
 use crate::output::put;
 
 // A number that a field gives, or that it gives none.

@@ -46,3 +46,10 @@ hands-utc a r e n d m p q o =
       its-day = q ∙ (ap utcDay e ∙ ap (λ (u : Utc). u .day) (told .1));
       its-micros = o ∙ (ap utcMicros e ∙ ap (λ (u : Utc). u .micros) (told .1));
     }
+
+-- of an instant given the day and its microseconds are handed over, each in its place; of one refused the number, 0 and 0
+pub utc-given : (day micros n d m : ℕ) → HandsUtc (given (record { day = day; micros = micros })) n d m → (n ≡ 0) × (d ≡ day) × (m ≡ micros)
+utc-given day micros n d m h = (h .its-number, h .its-day, h .its-micros)
+
+pub utc-refused : (number n d m : ℕ) → HandsUtc (refused number) n d m → (n ≡ number) × (d ≡ 0) × (m ≡ 0)
+utc-refused number n d m h = (h .its-number, h .its-day, h .its-micros)

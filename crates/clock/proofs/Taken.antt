@@ -1,6 +1,6 @@
 -- Which dates and instants are taken: a well-formed schedule answers exactly those that the paper names.
 -- Assumes nothing.
-use mathlib.Core.Bool.{true}
+use mathlib.Core.Bool.{true, false}
 use mathlib.Core.Logic.{_↔_}
 use mathlib.Core.Path.{_≡_, _∙_}
 use Prim.Native.Nat.{ℕ, _<_, _≤_}
@@ -14,7 +14,7 @@ use Rattle.clock.specs.Days.{longDay, ending, dayLength, dtai, tai}
 use Rattle.clock.specs.Smoothed.{nanosPerDay, uts, utcOf}
 use Rattle.clock.specs.Known.{lastDay, taiCutoff, utsCutoff, nanosCutoff, taiEnd, knownTai}
 use Rattle.refusals.specs.Answer.{Answer, given, refused}
-use Rattle.clock.specs.Question.{firstTai, atInstant, atUtc, dayOf, utcToTai, utcToUts, utsToUtc, Question, DTAI, UTC-to-TAI, TAI-to-UTC, UTC-to-UTS, UTS-to-UTC, Value, ask}
+use Rattle.clock.specs.Question.{firstTai, atInstant, atUtc, dayOf, dtaiOn, utcToTai, taiToUtc, utcToUts, utsToUtc, Question, DTAI, UTC-to-TAI, TAI-to-UTC, UTC-to-UTS, UTS-to-UTC, Value, ask}
 use Rattle.clock.specs.Taken.{Within, Takes}
 use Rattle.clock.proofs.Tai.{expires-later}
 use Rattle.refusals.proofs.Checks.{pass, stop, required}
@@ -51,6 +51,28 @@ module _ (s : Schedule) (w : wellFormed s ≡ true) where
     λ h. (utcOf (ending s day) u, instant-passed s nanosPerDay nanosCutoff day u (record { well = w; from = h .0; below = h .1; sure = within-sure (h .2) })),
     λ h. let k = on-uts s day u (utcOf (ending s day) u) (h .0) (h .1) in (k .0 .from, k .0 .below, sure-within (k .0 .sure)),
   )
+
+-- before MJD 41317 every date and instant is refused with 8, whatever its time; and so is every TAI below 10,000,000
+pub before-first : (s : Schedule) → wellFormed s ≡ true → (day t u : ℕ) → day < 41_317
+    → (dtaiOn s day ≡ refused 8) × (utcToTai s day t ≡ refused 8) × (utcToUts s day t ≡ refused 8) × (utsToUtc s day u ≡ refused 8)
+before-first s w day t u h =
+    let early : leb firstDay day ≡ false = lt-leb firstDay day h in (
+      pass notWellFormed w ∙ stop _ before1972 early,
+      pass notWellFormed w ∙ stop _ before1972 early,
+      pass notWellFormed w ∙ stop _ before1972 early,
+      pass notWellFormed w ∙ stop _ before1972 early,
+    )
+
+pub before-first-tai : (s : Schedule) → wellFormed s ≡ true → (x : ℕ) → x < 10_000_000 → taiToUtc s x ≡ refused 8
+before-first-tai s w x h = pass notWellFormed w ∙ stop _ before1972 (lt-leb firstTai x h)
+
+-- a schedule that is not well formed has 11 for every question
+pub malformed : (s : Schedule) → wellFormed s ≡ false → (q : Question) → ask s q ≡ refused 11
+malformed s w (DTAI day) = stop _ notWellFormed w
+malformed s w (UTC-to-TAI day t) = stop _ notWellFormed w
+malformed s w (TAI-to-UTC x) = stop _ notWellFormed w
+malformed s w (UTC-to-UTS day t) = stop _ notWellFormed w
+malformed s w (UTS-to-UTC day u) = stop _ notWellFormed w
 
 module _ (s : Schedule) (w : wellFormed s ≡ true) (day : ℕ) (from : 41_317 ≤ day) where
   none-there : {A : Type 0} (limit cutoff t : ℕ) (a : Answer A) → limit ≤ t → atInstant (wellFormed s) (lastDay s) limit cutoff day t a ≡ refused 9

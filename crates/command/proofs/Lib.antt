@@ -6,3 +6,4 @@ mod TwoLists
 pub mod Streams
 pub mod OneLine
 pub mod Worked
+pub mod Words

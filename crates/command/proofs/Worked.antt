@@ -1,4 +1,4 @@
--- What the lines of each word are answered, worked by hand, as two tables.
+-- What the lines of each word are answered, worked by hand, as one table under one claim.
 -- Assumes nothing.
 use mathlib.Core.Path.{_≡_, refl}
 use mathlib.Core.Bool.{Bool, true, false}
@@ -63,26 +63,3 @@ table =
 pub worked : SayAll table
 unfolding monthStart daysInMonth monthLengths isLeapYear answerTo parts wordOf same usage expected formOf answerFor ofList ofHex ofPair listOf longerBy refusal readText readFrom byReading joined linesOf monthLines lineAt hasLeap leapMark isExpired expiryLines relationBy between decimal digitsIn below sameLeaps chosenOf within allDigits valueAfter numberOf hex nybbleOf allHexDigits unhex refusalAt monthOf startsMonth monthAt greatest gapsFit lastLeap digits textFrom textOf nybbles single wide codesOf fault after readCodes readNybbles dtai taiWith tai fullyKnown knownTo taiEnd uts askedOf askedUnder date dateOf stretch stretches shown
 worked = (refl, (refl, (refl, (refl, (refl, (refl, (refl, (refl, (refl, (refl, (refl, (refl, (refl, tt)))))))))))))
-
--- each time question on the first day, or from where on it is refused; a nybble list; a form takes its fields and no others
-abbrev pub others : List Row
-others =
-    answers true "text 90F4" "6+5?"
-    ∷ answers true "dtai 5? 41317" "10"
-    ∷ answers true "tai 5? 41317 86401000000" "!9"
-    ∷ answers true "utc 5? 9999999" "!8"
-    ∷ answers true "uts 5? 41317 1" "1000"
-    ∷ answers true "unsmooth 5? 41317 86400000000000" "!9"
-    -- a form takes its fields, and no others
-    ∷ answers true "show" "? expected: show LIST"
-    ∷ answers true "text 90f" "? expected: text HEX"
-    ∷ answers true "dtai 5?" "? expected: dtai LIST MJD"
-    ∷ answers true "utc 5? x" "? expected: utc LIST TAI"
-    ∷ answers true "tai 5? 41317 1 1" "? expected: tai LIST MJD MICROS"
-    ∷ answers true "now" "? expected: show, nybbles, text, dtai, tai, utc, uts, unsmooth, compare or longer"
-    ∷ []
-
--- every row of it holds too
-pub worked-others : SayAll others
-unfolding monthStart daysInMonth monthLengths isLeapYear answerTo parts wordOf same usage expected formOf answerFor ofList ofHex ofPair listOf longerBy refusal readText readFrom byReading joined linesOf monthLines lineAt hasLeap leapMark isExpired expiryLines relationBy between decimal digitsIn below sameLeaps chosenOf within allDigits valueAfter numberOf hex nybbleOf allHexDigits unhex refusalAt monthOf startsMonth monthAt greatest gapsFit lastLeap digits textFrom textOf nybbles single wide codesOf fault after readCodes readNybbles dtai taiWith tai fullyKnown knownTo taiEnd uts askedOf askedUnder date dateOf stretch stretches shown
-worked-others = (refl, (refl, (refl, (refl, (refl, (refl, (refl, (refl, (refl, (refl, (refl, (refl, tt))))))))))))

@@ -118,7 +118,8 @@ handed-each {none = none} {answers = answers} {numbers = numbers} {values = valu
 -- and of TAI to UTC the day and its microseconds
 pub handed-each-utc : {answers : List (Answer Utc)} {numbers days micros : List ℕ} {result : ℕ} {numbers′ days′ micros′ : List ℕ}
     → HandsManyUtc answers numbers days micros result numbers′ days′ micros′ → (i : ℕ) (e : Answer Utc) → i < length answers → i < length numbers → i < length days → i < length micros
-    → (getD numbers′ i 0 ≡ number (getD answers i e)) × (getD days′ i 0 ≡ dayOrZero (getD answers i e)) × (getD micros′ i 0 ≡ microsOrZero (getD answers i e))
+    → (getD numbers′ i 0 ≡ number (getD answers i e)) × (getD days′ i 0 ≡ orZero (record { day = 0; micros = 0 }) (getD answers i e) .day)
+    × (getD micros′ i 0 ≡ orZero (record { day = 0; micros = 0 }) (getD answers i e) .micros)
 handed-each-utc {answers} {numbers} {days} {micros} {result} h i e a b c f =
     let below : i < result = omega (arith, h .its-count) in
     let within : result ≤ length answers = omega (arith, h .its-count) in (
