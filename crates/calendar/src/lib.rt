@@ -1,5 +1,7 @@
 // Months and days: the day on which each month from January 1972 to January 2172 starts, and the month of a day.
 // A day is a Modified Julian Day; month 0 is January 1972.
+#![tactic(auto)]
+
 ghost use Rattle.std.specs.Prelude.{◌≡◌, min, ◌≤◌, ◌<◌};
 ghost use Rattle.calendar.specs.Calendar.{first_day, last_month, end_day, month_start, month_of, MonthOrNext, starts_month, month_at, found, refused};
 

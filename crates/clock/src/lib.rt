@@ -1,5 +1,7 @@
 // The clock: what a list of leap seconds says of times, in definitions and laws. Here are the numbers and the types that the five questions are
 // asked and answered with: DTAI for a date, UTC to TAI and back, UTC to smoothed time (UTS) and back.
+#![tactic(auto)]
+
 pub mod answers; // answers.rt: the number and the values of each kind of answer
 
 // A second in microseconds.

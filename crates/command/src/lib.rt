@@ -1,4 +1,6 @@
 // Question lines and their answers. Any bytes may be given as a line; what is no question is answered by what was expected.
+#![tactic(auto)]
+
 ghost use Rattle.std.specs.Prelude.{◌≤◌, length, [], ◌∷◌};
 ghost use Rattle.ascii.specs.Output.{PutsUpTo};
 ghost use Rattle.ascii.specs.Parts.{parts};

@@ -1,4 +1,6 @@
 // Runs the figures of the papers and prints them, one a line: a name, then numbers. The file `stdout` has them as the papers give them.
+#![tactic(auto)]
+
 use clock::{
     DtaiAnswer, MicrosAnswer, TaiAnswer, TaiMicros, UtcAnswer, UtcMicros, UtsAnswer, UtsNanos,
 };

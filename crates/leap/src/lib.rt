@@ -1,4 +1,6 @@
 // The C interface. A schedule is the C struct leap_schedule, 514 words; include/leap.h says what each function answers.
+#![tactic(auto)]
+
 ghost use Rattle.std.specs.Prelude.{length, pos};
 ghost use Rattle.text.specs.Read.{read_text};
 ghost use Rattle.text.specs.Write.{text_of};

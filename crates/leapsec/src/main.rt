@@ -1,5 +1,6 @@
 // Answers the question that its arguments are, or every line of its standard input. The crates `command` and `replay` make the answers; here bytes
 // are moved.
+#![tactic(auto)]
 
 mod lines; // lines.rt: the lines of standard input, questions or a trace
 mod output; // output.rt: standard output

@@ -1,4 +1,6 @@
 // Many questions under one list: the list is checked and prepared once, and then each instant is answered as a single question would be.
+#![tactic(auto)]
+
 ghost use mathlib.Core.List.{map, zip_with};
 ghost use Rattle.std.specs.Prelude.{◌≡◌, min, pos};
 ghost use Rattle.schedule.specs.WordLayout.{meant};

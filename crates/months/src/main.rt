@@ -1,5 +1,7 @@
 // Asks for the month of every day from MJD 41310 to 114370, each once, and prints a line for each stretch of days with one answer: its first day,
 // its last day, and the month, or `!` and the number of the refusal. The last line says how many days were asked about.
+#![tactic(auto)]
+
 use calendar::Lookup;
 
 const FROM: u64 = 41_310;

@@ -1,4 +1,6 @@
 // The nybble list: its reader and its writer.
+#![tactic(auto)]
+
 use crate::progress::Progress;
 use schedule::Writing;
 

@@ -1,5 +1,7 @@
 // The five questions, one at a time: DTAI for a date, UTC to TAI and back, UTC to smoothed time (UTS) and back. Any words and any number may be
 // given; what can't be answered is refused by its number.
+#![tactic(auto)]
+
 ghost use Rattle.std.specs.Prelude.{◌≡◌};
 ghost use Rattle.schedule.specs.WordLayout.{meant};
 ghost use Rattle.clock.specs.Question.{dtai_on, utc_to_tai, tai_to_utc, utc_to_uts, uts_to_utc};

@@ -1,10 +1,9 @@
 -- The laws of one check: passed or not, and what that says of the answer.
 -- Assumes nothing.
-use mathlib.Core.Bool.{Bool, true, false, not}
+use mathlib.Core.Bool.{Bool, true, false}
 use mathlib.Core.Path.{◌≡◌, refl, sym, ◌∙◌}
 use Prim.Native.Nat.{ℕ, ◌≤◌}
 use native.Mathlib.Omega.{arith}
-use borrow.Author.Tests.{not-true, not-false}
 use Rattle.refusals.specs.Answer.{Answer, given, refused, require, number}
 
 pub pass : {A : Type 0} {a : Answer A} {b : Bool} (n : ℕ) → b ≡ true → require b n a ≡ a
@@ -14,11 +13,11 @@ pub stop : {A : Type 0} (a : Answer A) {b : Bool} (n : ℕ) → b ≡ false → 
 stop a n e = rw e
 
 -- what the code's flag says of the test that it stands for
-pub passed : {a b : Bool} → b ≡ a → not b ≡ false → a ≡ true
-passed {a} {b} e h = sym e ∙ not-false b h
+pub passed : {a b : Bool} → b ≡ a → b ≡ true → a ≡ true
+passed e h = sym e ∙ h
 
-pub failed : {a b : Bool} → b ≡ a → not b ≡ true → a ≡ false
-failed {a} {b} e h = sym e ∙ not-true b h
+pub failed : {a b : Bool} → b ≡ a → b ≡ false → a ≡ false
+failed e h = sym e ∙ h
 
 -- a check that was passed, and what was asked after it
 pub required : {A : Type 0} {a : Answer A} {v : A} (b : Bool) (n : ℕ) → require b n a ≡ given v → (b ≡ true) × (a ≡ given v)

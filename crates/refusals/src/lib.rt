@@ -1,4 +1,5 @@
 // The refusals by name. An accepted answer carries 0.
+#![tactic(auto)]
 
 // The list ends early.
 pub const ENDS_EARLY: u8 = 1;

@@ -1,4 +1,6 @@
 // A recorded trace of lines, replayed: lists that are used, stored and gone back to, and questions for smoothed time. Any bytes may be given.
+#![tactic(auto)]
+
 ghost use Rattle.std.specs.Prelude.{◌≡◌, length};
 ghost use Rattle.ascii.specs.Output.{PutsUpTo};
 ghost use Rattle.schedule.specs.Answers.{fitting, fitted};

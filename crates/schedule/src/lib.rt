@@ -1,5 +1,7 @@
 // A list of leap seconds in code: the 514 words of the C struct, lent. What they mean is a schedule of the definitions; here they are checked and
 // read, and what readers and writers of them answer is told.
+#![tactic(auto)]
+
 ghost use Rattle.std.specs.Prelude.{◌≡◌, ◌*◌, ◌≤◌, min, true, ◌&&◌};
 ghost use Rattle.schedule.specs.Schedule.{max_leaps, last_month, month_start, month_of, is_expired, last_leap, well_formed};
 ghost use Rattle.schedule.specs.Extends.{extends};

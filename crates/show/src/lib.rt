@@ -1,4 +1,6 @@
 // A list as its stretches of constant DTAI.
+#![tactic(auto)]
+
 ghost use Rattle.std.specs.Prelude.{◌≡◌, true, [], ◌≤◌, ◌<◌};
 ghost use Rattle.ascii.specs.Output.{PutsUpTo};
 ghost use Rattle.calendar.specs.Calendar.{first_day, end_day};

@@ -1,0 +1,39 @@
+-- `ascii::hex::put_hex` meets its contract. The loop's invariant: the hex of all but the bytes from `i` on is put. Assumes nothing.
+use borrow.Author.Rules.{rules}
+use native.Mathlib.Omega.{arith}
+use Prim.Native.Nat.{◌≤◌, ◌-◌}
+use lib.ListN.{length, drop}
+use Rattle.ascii.specs.Hex.{hex}
+use Rattle.ascii.proofs.Halves as halves
+use Rattle.ascii.proofs.Putting.{Left, start, step, end, same_long, two_bytes}
+use Rattle.ascii.proofs.hex.put_hex.Goals as goal
+
+pub loop-i-init : goal.loop-i-init
+loop-i-init c = (search rules, start _ _ _)
+
+pub hex_digit-requires : goal.hex_digit-requires
+hex_digit-requires c =
+    let shared-slice-known = c.shared_slice_known-1 in
+    let loop = c.loop-i in
+    omega (arith, shared-slice-known.given loop.i)
+
+pub loop-i-preserved : goal.loop-i-preserved
+loop-i-preserved c =
+    let loop = c.loop-i in
+    let put = c.put-next in
+    let hex_digit_lem = c.hex_digit in
+    let put2 = c.put-next-in-loop-i in
+    let hex-digit2 = c.hex_digit-in-loop-i in
+    let loop-test = c.loop-i-test in
+    (search rules, step loop.invariant.1 (two_bytes put.ensures hex_digit_lem.ensures put2.ensures hex-digit2.ensures) (halves.hex_more _ _ loop-test.true))
+
+pub shape_of-out : goal.shape_of-out
+shape_of-out c =
+    let loop = c.loop-i in
+    same_long loop.invariant.1.puts
+
+pub returns : goal.returns
+returns c =
+    let loop = c.loop-i in
+    let loop-test = c.loop-i-test in
+    end loop.invariant.1 (halves.hex_end _ _ loop-test.false)

@@ -1,0 +1,13 @@
+-- `ascii::lines::put_two_numbers` meets its contract. Assumes nothing.
+use borrow.Author.Rules.{rules}
+use native.Mathlib.Omega.{arith}
+use mathlib.Core.Path.{refl}
+use Rattle.ascii.proofs.Putting.{up_to, a_byte}
+use Rattle.ascii.proofs.lines.put_two_numbers.Goals as goal
+
+pub returns : goal.returns
+returns c =
+    let put-decimal = c.put_decimal-a in
+    let put = c.put-b in
+    let put-decimal2 = c.put_decimal in
+    up_to put-decimal.ensures (up_to {most = 21} (a_byte put.ensures) put-decimal2.ensures refl (omega arith)) refl (omega arith)

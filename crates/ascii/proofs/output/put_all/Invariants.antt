@@ -1,0 +1,13 @@
+use borrow.Author.Rules.{rules}
+use native.Mathlib.Omega.{arith}
+use Prim.Native.Nat.{◌≤◌, ◌-◌}
+use lib.ListN.{length, drop, drop_of_length-le}
+use Rattle.ascii.proofs.Lists.{uncons}
+use Rattle.ascii.proofs.Putting.{Left, start, step, end, same_long}
+use Rattle.ascii.proofs.output.put_all.Given as goal
+
+abbrev pub invariant-loop-i : goal.invariant-loop-i
+invariant-loop-i l = (l.i ≤ length l.bytes) × Left l.initial.out l.out l.at l.next l.bytes (drop l.i l.bytes)
+
+abbrev pub decreases-loop-i : goal.decreases-loop-i
+decreases-loop-i l = length l.bytes - l.i

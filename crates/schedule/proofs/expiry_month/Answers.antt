@@ -1,0 +1,11 @@
+-- `schedule::expiry_month` meets its contract. Assumes nothing.
+use Rattle.std.proofs.Common.{ap, ◌∙◌, rules}
+use Rattle.schedule.specs.Schedule.{month_of}
+use Rattle.schedule.proofs.expiry_month.Goals as goal
+
+pub returns : goal.returns
+returns c =
+    let wide = c.wide in
+    let latest-month = c.latest_month in
+    let long = c.long in
+    wide.ensures ∙ (latest-month.ensures ∙ ap month_of long.ensures)
