@@ -28,7 +28,7 @@ pub(crate) const IN_MONTHS: u8 = 1;
 const LAST_G: u8 = 4;
 
 // What stands at the end of a code's months: nothing, since the gap continues, or a leap, or the expiry.
-#[derive(Drop)]
+#[derive(Clone, Copy)]
 pub(crate) enum Mark {
     Continues,
     Leaps(Sign),
@@ -36,7 +36,7 @@ pub(crate) enum Mark {
 }
 
 // A code: its months, its mark, and how many nybbles it has.
-#[derive(Drop)]
+#[derive(Clone, Copy)]
 pub(crate) struct Code {
     pub(crate) months: u32,
     pub(crate) mark: Mark,

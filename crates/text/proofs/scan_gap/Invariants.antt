@@ -1,0 +1,19 @@
+use borrow.Author.Rules.{rules}
+use native.Mathlib.Omega.{arith}
+use native.Mathlib.Nat.{pos_of_ne-zero, lt_irrefl, lt_of_lt_of_le}
+use mathlib.Core.Path.{◌≡◌, refl, ◌∙◌, sym}
+use Prim.Native.Nat.{ℕ, ◌≤◌, ◌-◌}
+use lib.ListN.{length, drop, get_or}
+use Rattle.schedule.specs.Schedule.{Schedule}
+use Rattle.text.specs.Read.{read_from}
+use Rattle.text.proofs.Follow.{digit_low, digit_high, leading_zero, fourth_digit, follows}
+use Rattle.text.proofs.Laws as laws
+use Rattle.text.proofs.scan_gap.Given as goal
+
+abbrev pub invariant-loop-at : goal.invariant-loop-at
+invariant-loop-at l =
+    (l.at ≤ length l.bytes) × ((l.initial.at ≤ l.at) × ((l.gap ≤ 999)
+    × ((t : ℕ) (s : Schedule) → read_from 0 l.initial.at t s (drop l.initial.at l.bytes) ≡ read_from l.gap l.at t s (drop l.at l.bytes))))
+
+abbrev pub decreases-loop-at : goal.decreases-loop-at
+decreases-loop-at l = length l.bytes - l.at

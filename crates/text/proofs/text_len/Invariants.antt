@@ -1,0 +1,15 @@
+use Prim.Native.Nat.{◌≤◌, ◌-◌, ◌*◌}
+use native.Mathlib.Omega.{arith}
+use borrow.Author.Rules.{rules}
+use Rattle.schedule.specs.WordLayout.{meant}
+use Rattle.text.specs.Bytes.{end_byte}
+use Rattle.text.proofs.Digits.{few}
+use Rattle.text.proofs.Steps as steps
+use Rattle.text.proofs.Steps.{Standing, marked_length}
+use Rattle.text.proofs.text_len.Given as goal
+
+abbrev pub invariant-loop-i : goal.invariant-loop-i
+invariant-loop-i l = (l.n ≤ 4 * l.i) × (l.i ≤ l.count) × (l.count ≤ 256) × Standing (meant l.words) l.n l.i l.last
+
+abbrev pub decreases-loop-i : goal.decreases-loop-i
+decreases-loop-i l = l.count - l.i
