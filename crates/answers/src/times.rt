@@ -13,7 +13,7 @@ use clock::{
 };
 
 // A time question, with a day or an instant.
-#[derive(Drop)]
+#[derive(Clone, Copy)]
 pub enum Asked {
     Dtai(u64),
     Tai(u64, UtcMicros),

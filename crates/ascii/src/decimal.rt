@@ -8,7 +8,7 @@ ghost use Rattle.ascii.specs.Private.{eight};
 use crate::output::put;
 
 // A number that a field gives, or that it gives none.
-#[derive(Drop)]
+#[derive(Clone, Copy)]
 pub enum Number {
     Given(u64),
     Missing,

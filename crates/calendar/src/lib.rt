@@ -20,7 +20,7 @@ pub const LAST_MONTH: u16 = 2400;
 pub const END_DAY: u64 = 114_366;
 
 // The answer about a day: number 0 and its month, or the refusal's number and month 0.
-#[derive(Drop)]
+#[derive(Clone, Copy)]
 pub struct Lookup {
     pub number: u8,
     pub month: u16,

@@ -35,19 +35,19 @@ pub const UTS_CUTOFF: u64 = 85_399_000_000;
 pub const NANOS_CUTOFF: u64 = 85_399_000_000_000;
 
 // Microseconds of a UTC day.
-#[derive(Drop)]
+#[derive(Clone, Copy)]
 pub struct UtcMicros(pub u64);
 
 // Nanoseconds of a UTS day, which always has 86,400 s.
-#[derive(Drop)]
+#[derive(Clone, Copy)]
 pub struct UtsNanos(pub u64);
 
 // Microseconds from 1972-01-01 00:00:00 TAI.
-#[derive(Drop)]
+#[derive(Clone, Copy)]
 pub struct TaiMicros(pub u64);
 
 // How a day ends: as usual, with a second inserted, or with its last second deleted.
-#[derive(Drop)]
+#[derive(Clone, Copy)]
 pub enum Ending {
     Ordinary,
     Inserted,
@@ -55,35 +55,35 @@ pub enum Ending {
 }
 
 // DTAI in seconds, or the number of the refusal.
-#[derive(Drop)]
+#[derive(Clone, Copy)]
 pub enum DtaiAnswer {
     Given(i32),
     Refused(u8),
 }
 
 // A TAI, or the number of the refusal.
-#[derive(Drop)]
+#[derive(Clone, Copy)]
 pub enum TaiAnswer {
     Given(TaiMicros),
     Refused(u8),
 }
 
 // An MJD and microseconds of that day, or the number of the refusal.
-#[derive(Drop)]
+#[derive(Clone, Copy)]
 pub enum UtcAnswer {
     Given(u64, UtcMicros),
     Refused(u8),
 }
 
 // A UTS of the same day, or the number of the refusal.
-#[derive(Drop)]
+#[derive(Clone, Copy)]
 pub enum UtsAnswer {
     Given(UtsNanos),
     Refused(u8),
 }
 
 // Microseconds of the same UTC day, or the number of the refusal.
-#[derive(Drop)]
+#[derive(Clone, Copy)]
 pub enum MicrosAnswer {
     Given(UtcMicros),
     Refused(u8),

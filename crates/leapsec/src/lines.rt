@@ -12,14 +12,14 @@ use stream::Step;
 const MOST_HELD: usize = command::MAX_LINE + 1;
 
 // How many bytes of an input are answered, and whether the answers could be written.
-#[derive(Drop)]
+#[derive(Clone, Copy)]
 struct Answered {
     used: usize,
     is_written: bool,
 }
 
 // Where the bytes that are not answered yet stand in the buffer, and whether to go on.
-#[derive(Drop)]
+#[derive(Clone, Copy)]
 struct Rest {
     from: usize,
     to: usize,

@@ -7,7 +7,7 @@ ghost use Rattle.line.specs.Words.{word_of, form_of, usage, expected};
 use ascii::output::put_all;
 use ascii::parts::same;
 
-#[derive(Drop)]
+#[derive(Clone, Copy)]
 pub enum Word {
     Show,
     Nybbles,
@@ -23,21 +23,21 @@ pub enum Word {
 }
 
 // The words that take a list alone,
-#[derive(Drop)]
+#[derive(Clone, Copy)]
 pub enum ListWord {
     Show,
     Nybbles,
 }
 
 // a list and a number,
-#[derive(Drop)]
+#[derive(Clone, Copy)]
 pub enum NumberWord {
     Dtai,
     Utc,
 }
 
 // a list, a day and a time of it,
-#[derive(Drop)]
+#[derive(Clone, Copy)]
 pub enum TimeWord {
     Tai,
     Uts,
@@ -45,14 +45,14 @@ pub enum TimeWord {
 }
 
 // and two lists.
-#[derive(Drop)]
+#[derive(Clone, Copy)]
 pub enum PairWord {
     Compare,
     Longer,
 }
 
 // The fields that a word takes, and which of the words that take them it is.
-#[derive(Drop)]
+#[derive(Clone, Copy)]
 pub enum Form {
     List(ListWord),
     Hex,

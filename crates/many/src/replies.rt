@@ -13,14 +13,14 @@ use clock::{NANOS_CUTOFF, UTS_CUTOFF};
 use questions::by_day::{early_micros, early_uts, micros_on, near_day, tai_on, utc_on, uts_on};
 
 // An answer's number, and its value or 0.
-#[derive(Drop)]
+#[derive(Clone, Copy)]
 pub(crate) struct Reply {
     pub(crate) number: u8,
     pub(crate) value: u64,
 }
 
 // The same where the value is a UTC.
-#[derive(Drop)]
+#[derive(Clone, Copy)]
 pub(crate) struct UtcReply {
     pub(crate) number: u8,
     pub(crate) day: u64,
@@ -28,7 +28,7 @@ pub(crate) struct UtcReply {
 }
 
 // The three questions about a day and a time of it that are answered with one number.
-#[derive(Drop)]
+#[derive(Clone, Copy)]
 pub(crate) enum Asked {
     Tai,
     Uts,

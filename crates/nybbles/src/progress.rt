@@ -9,7 +9,7 @@ use crate::code::{Code, Mark};
 use schedule::{LAST_MONTH, MAX_GAP, MAX_LEAPS};
 
 // The months of the gap, those of the whole list, and how many leaps were read. The leaps stand in the words that are handed over.
-#[derive(Drop)]
+#[derive(Clone, Copy)]
 pub(crate) struct Progress {
     pub(crate) gap: u32,
     pub(crate) total: u32,

@@ -23,7 +23,7 @@ const MOST_DTAI: u64 = 266_000_000;
 
 // What a list says of a day: whether it is one, how many seconds its leaps have added by then and how many they have taken away, how the day ends,
 // and Z, the last day before expiry.
-#[derive(Drop)]
+#[derive(Clone, Copy)]
 pub struct Day {
     pub well: bool,
     pub up: u16,

@@ -16,7 +16,7 @@ const MAX_LINE: usize = 4096;
 const MAX_DIGITS: usize = 18;
 
 // What a line says: use the list that follows the first two bytes, store, reset, a question about an instant, or none of these.
-#[derive(Drop)]
+#[derive(Clone, Copy)]
 pub(crate) enum Said {
     Use,
     Store,

@@ -26,14 +26,14 @@ const FIRST_DAY: u32 = calendar::FIRST_DAY as u32;
 // Month 2400 starts on this day; an expiry is no later.
 pub const END_DAY: u32 = calendar::END_DAY as u32;
 
-#[derive(Drop)]
+#[derive(Clone, Copy)]
 pub enum Sign {
     Positive,
     Negative,
 }
 
 // What a writer answers: number 0 and the count of bytes written, or a refusal's number and 0.
-#[derive(Drop)]
+#[derive(Clone, Copy)]
 pub struct Writing {
     pub number: u8,
     pub count: usize,

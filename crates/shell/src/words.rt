@@ -4,7 +4,7 @@ ghost use Rattle.shell.specs.Words.{own_of};
 
 use ascii::parts::same;
 
-#[derive(Drop)]
+#[derive(Clone, Copy)]
 pub enum Own {
     Ask,
     Replay,

@@ -2,7 +2,7 @@
 #![tactic(auto)]
 
 // How much of an input was used, and how much of an output written.
-#[derive(Drop)]
+#[derive(Clone, Copy)]
 pub struct Step {
     pub used: usize,
     pub written: usize,

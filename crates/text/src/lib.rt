@@ -14,13 +14,13 @@ ghost use Rattle.text.specs.Private.{Ends, Scanned, Due};
 
 use schedule::{Sign, Writing};
 
-#[derive(Drop)]
+#[derive(Clone, Copy)]
 struct Cursor {
     pub at: usize,
 }
 
 // What stands where a gap is due: a gap in months, with the cursor past its digits, or why there is none, and where.
-#[derive(Drop)]
+#[derive(Clone, Copy)]
 enum Gap {
     Months(u32, Cursor),
     Ended(Cursor),
@@ -29,14 +29,14 @@ enum Gap {
 }
 
 // How the reading of a list ends: it is taken, or refused with a number and a place.
-#[derive(Drop)]
+#[derive(Clone, Copy)]
 enum End {
     Taken,
     Refusal(u8, usize),
 }
 
 // What a byte is where a mark is due.
-#[derive(Drop)]
+#[derive(Clone, Copy)]
 enum Mark {
     Leaps(Sign),
     Expires,
