@@ -135,6 +135,7 @@ HasLeapOf (l ∷ ls) m g = ((l.month ≡ m) × (l.sign ≡ g)) ⊎ HasLeapOf ls 
 
 is_there : (ls : List Leap) (m : ℕ) (g : Sign) → HasLeapOf ls m g → has_leap ls m ≡ true
 unfolding has_leap
+is_there [] m g h = elim h [ ]
 is_there (l ∷ ls) m g (inl e) = rw (eq-eqb l.month m e.0)
 is_there (l ∷ ls) m g (inr h) = (or_true_iff (eqb l.month m) (has_leap ls m)).1 (inr (is_there ls m g h))
 
@@ -146,6 +147,7 @@ marked_there (l ∷ ls) m g e =
 
 there_marked : (ls : List Leap) (from e m : ℕ) (g : Sign) → gaps_fit from ls e ≡ true → HasLeapOf ls m g → leap_mark ls m ≡ sign_byte g
 unfolding leap_mark
+there_marked [] from e m g f h = elim h [ ]
 there_marked (l ∷ ls) from e m g f (inl p) = rw (eq-eqb l.month m p.0) (ap sign_byte p.1)
 there_marked (l ∷ ls) from e m g f (inr h) =
     let more = later from l ls e f in

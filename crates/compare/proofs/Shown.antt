@@ -34,6 +34,7 @@ in_parts l (x ∷ xs) ys (inl e) = inl (inl e)
 in_parts l (x ∷ xs) ys (inr h) = ⊎_elim (λ p. inl (inr p)) (λ q. inr q) (in_parts l xs ys h)
 
 in_first : (l : Line) (xs ys : List Line) → In l xs → In l (xs ++ ys)
+in_first l [] ys h = elim h [ ]
 in_first l (x ∷ xs) ys (inl e) = inl e
 in_first l (x ∷ xs) ys (inr h) = inr (in_first l xs ys h)
 

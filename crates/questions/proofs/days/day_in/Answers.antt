@@ -1,0 +1,11 @@
+-- `questions::days::day_in` meets its contract. Assumes nothing.
+use Rattle.std.proofs.Common.{rules}
+use Rattle.questions.proofs.Places.{looked}
+use Rattle.questions.proofs.days.day_in.Goals as goal
+
+pub returns : goal.returns
+returns c =
+    let month-of = c.month_of-found in
+    let wide = c.wide in
+    let look = c.look in
+    looked month-of.ensures (rw (← wide.ensures.0) look.ensures)
