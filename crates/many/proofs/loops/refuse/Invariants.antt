@@ -1,0 +1,12 @@
+use Prim.Native.Nat.{◌-◌}
+use native.Mathlib.Omega.{arith}
+use borrow.Author.Rules.{rules}
+use Rattle.refusals.specs.Refusals.{not_well_formed}
+use Rattle.many.proofs.Answering.{Repeating, repeated_none, repeated_one, repeated_all}
+use Rattle.many.proofs.loops.refuse.Given as goal
+
+abbrev pub invariant-loop-i : goal.invariant-loop-i
+invariant-loop-i l = Repeating not_well_formed l.n l.initial.numbers l.numbers l.i × Repeating 0 l.n l.initial.values l.values l.i
+
+abbrev pub decreases-loop-i : goal.decreases-loop-i
+decreases-loop-i l = l.n - l.i

@@ -1,0 +1,20 @@
+-- `many::replies::reply_utc` meets its contract. Assumes nothing.
+use mathlib.Core.Path.{ap, ◌∙◌}
+use borrow.Author.Rules.{rules}
+use Rattle.clock.specs.Answers.{utc_answer}
+use Rattle.clock.proofs.Numbers.{hands_utc}
+use Rattle.questions.specs.Said.{near_day}
+use Rattle.questions.proofs.Said.{utc_said}
+use Rattle.many.proofs.replies.reply_utc.Goals as goal
+
+pub returns : goal.returns
+returns c s p =
+    let utc-on = c.utc_on-a in
+    let found = c.found in
+    let near-day = c.near_day-near in
+    let args = c.args in
+    let utc_number_lem = c.utc_number in
+    let utc-day = c.utc_day in
+    let utc-micros = c.utc_micros in
+    let answer = utc-on.ensures ∙ ap utc_answer (utc_said args.tai (found.ensures s p) (λ w. near-day.ensures ∙ ap (near_day args.tai) p.is_last)) in
+    hands_utc _ _ answer _ _ _ utc_number_lem.ensures utc-day.ensures utc-micros.ensures

@@ -1,0 +1,26 @@
+-- `many::replies::reply_uts` meets its contract. Assumes nothing.
+use mathlib.Core.Path.{ap, ◌∙◌}
+use borrow.Author.Rules.{rules}
+use Rattle.clock.specs.Answers.{uts_answer, uts_number, uts_value}
+use Rattle.many.proofs.Stretched.{list_in_lem}
+use Rattle.clock.proofs.Numbers.{uts_told, hands_value}
+use Rattle.questions.proofs.Said.{early_uts_said, uts_said}
+use Rattle.many.proofs.replies.reply_uts.Goals as goal
+
+pub returns-then-micros-lt-UTS_CUTOFF : goal.returns-then-micros-lt-UTS_CUTOFF
+returns-then-micros-lt-UTS_CUTOFF c s p =
+    let early-uts = c.early_uts-a in
+    let args = c.args in
+    let if1 = c.if-micros-lt-UTS_CUTOFF in
+    let uts-number = c.uts_number in
+    let uts-value = c.uts_value in
+    hands_value 0 uts_answer uts_number uts_value uts_told _ _ (early-uts.ensures ∙ ap uts_answer (early_uts_said (list_in_lem p) args.day args.micros if1.true)) _ uts-number.ensures _ uts-value.ensures
+
+pub returns : goal.returns
+returns c s p =
+    let uts-on = c.uts_on-a in
+    let found = c.found in
+    let args = c.args in
+    let uts-number2 = c.uts_number-2 in
+    let uts-value2 = c.uts_value-2 in
+    hands_value 0 uts_answer uts_number uts_value uts_told _ _ (uts-on.ensures ∙ ap uts_answer (uts_said (found.ensures s p) args.micros)) _ uts-number2.ensures _ uts-value2.ensures

@@ -1,0 +1,15 @@
+-- `replay::put_smoothed` meets its contract: the time, or the refusal. Assumes nothing.
+use borrow.Author.Rules.{rules}
+use native.Mathlib.Omega.{arith}
+use Rattle.ascii.proofs.Putting.{few}
+use Rattle.replay.proofs.put_smoothed.Goals as goal
+
+pub returns-in-Given : goal.returns-in-Given
+returns-in-Given c =
+    let put-time = c.put_time in
+    few put-time.ensures (rw c.in-Given.is) (omega arith)
+
+pub returns-in-Refused : goal.returns-in-Refused
+returns-in-Refused c =
+    let Put-refused = c.put_refused in
+    few Put-refused.ensures (rw c.in-Refused.is) (omega arith)

@@ -1,0 +1,14 @@
+-- `replay::put_time` meets its contract. Assumes nothing.
+use borrow.Author.Rules.{rules}
+use native.Mathlib.Omega.{arith}
+use mathlib.Core.Path.{refl}
+use Rattle.ascii.proofs.Putting.{up_to, a_byte}
+use Rattle.replay.specs.Replay.{shown}
+use Rattle.replay.proofs.put_time.Goals as goal
+
+pub returns : goal.returns
+unfolding shown
+returns c =
+    let put-two-numbers = c.put_two_numbers-next in
+    let put = c.put in
+    up_to put-two-numbers.ensures (a_byte put.ensures) refl (omega arith)
