@@ -1,0 +1,11 @@
+-- `answers::lists::read_list` meets its contract. Assumes nothing.
+use borrow.Author.Rules.{rules}
+use Rattle.answers.specs.Lists.{list_of}
+use Rattle.answers.proofs.lists.read_list.Goals as goal
+
+pub returns : goal.returns
+unfolding list_of
+returns c =
+    let list-of = c.list_of in
+    let read-text = c.read_text in
+    rw (← list-of.ensures) read-text.ensures

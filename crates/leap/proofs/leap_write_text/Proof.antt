@@ -1,8 +1,0 @@
--- `leap::leap_write_text` meets its contract. Assumes nothing.
-use borrow.Author.Rules.{rules}
-use Rattle.leap.proofs.Handed.{hands_bytes}
-use Rattle.leap.proofs.leap_write_text.Statement.{statement}
-use Rattle.leap.proofs.leap_write_text.Tie as tie
-
-pub leap-write-text-spec : {M : Type 1} → statement M
-leap-write-text-spec = tie.close (tie.spec (λ c κs. search rules) (λ c. search rules) (λ c. hands_bytes c.before.before.write-text.ensures))
