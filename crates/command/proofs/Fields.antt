@@ -6,16 +6,17 @@ use Prim.Native.Nat.{ℕ, ◌+◌, ◌≤◌, ◌<◌}
 use native.Mathlib.Omega.{arith}
 use native.Mathlib.Decide.{dec_le}
 use lib.ListN.{length}
-use types.Run.{OneOf, miss}
-use denote.Enum.Declared.{tag_of}
 use borrow.Author.Tests.{le-leb, lt-leb}
 use Rattle.ascii.specs.Parts.{first_part, parts}
 use Rattle.ascii.proofs.Splitting.{last_part, more_parts}
 use Rattle.ascii.proofs.Fields.{only, first_and_rest}
-use Rattle.line.specs.contracts.words.Form as form_type
 use Rattle.line.specs.declared.words.Form.{Form}
 use Rattle.line.specs.declared.words.Form.TheVariants as form
 use Rattle.line.specs.declared.words.Word.{Word}
+use Rattle.line.specs.declared.words.ListWord.{ListWord}
+use Rattle.line.specs.declared.words.NumberWord.{NumberWord}
+use Rattle.line.specs.declared.words.TimeWord.{TimeWord}
+use Rattle.line.specs.declared.words.PairWord.{PairWord}
 use Rattle.ascii.specs.Lines.{space_byte}
 use Rattle.line.specs.Words.{form_of, expected}
 use Rattle.command.specs.Answer.{one_field, of_list, of_hex, answer_by, answer_for, answer_parts, max_line, too_long, answer_to}
@@ -55,29 +56,25 @@ pub no_fields : (lines : Bool) (w : Word) → answer_for lines w [] ≡ expected
 unfolding answer_for
 no_fields lines w = none lines (expected w) (form_of w)
 
-abbrev no_list_tags : List ℕ
-no_list_tags = 2 ∷ 3 ∷ 4 ∷ 5 ∷ []
-
 -- a form of other than one field
-pub not_alone : (lines : Bool) (e x : List ℕ) (r : Form) → OneOf no_list_tags (tag_of form_type.the_type r) → answer_by lines e r (x ∷ []) ≡ e
-not_alone lines e x (form.List w) k = absurd (miss no_list_tags 0 tt k)
-not_alone lines e x form.Hex k = absurd (miss no_list_tags 1 tt k)
-not_alone lines e x (form.ListAndNumber w) k = refl
-not_alone lines e x (form.ListAndTime w) k = refl
-not_alone lines e x (form.TwoLists w) k = refl
-not_alone lines e x form.None k = refl
-
-abbrev alone_tags : List ℕ
-alone_tags = 0 ∷ 1 ∷ 5 ∷ []
+pub not_alone : (lines : Bool) (e x : List ℕ) (r : Form) → ((w : ListWord) → r ≡ form.List w → ⊥) → (r ≡ form.Hex → ⊥)
+    → answer_by lines e r (x ∷ []) ≡ e
+not_alone lines e x (form.List w) k h = absurd (k w refl)
+not_alone lines e x form.Hex k h = absurd (h refl)
+not_alone lines e x (form.ListAndNumber w) k h = refl
+not_alone lines e x (form.ListAndTime w) k h = refl
+not_alone lines e x (form.TwoLists w) k h = refl
+not_alone lines e x form.None k h = refl
 
 -- a form of at most one field
-pub not_several : (lines : Bool) (e x bytes : List ℕ) (r : Form) → OneOf alone_tags (tag_of form_type.the_type r) → answer_by lines e r (x ∷ parts space_byte bytes) ≡ e
-not_several lines e x bytes (form.List w) k = too_many e x bytes (of_list lines w)
-not_several lines e x bytes form.Hex k = too_many e x bytes (of_hex e)
-not_several lines e x bytes (form.ListAndNumber w) k = absurd (miss alone_tags 2 tt k)
-not_several lines e x bytes (form.ListAndTime w) k = absurd (miss alone_tags 3 tt k)
-not_several lines e x bytes (form.TwoLists w) k = absurd (miss alone_tags 4 tt k)
-not_several lines e x bytes form.None k = refl
+pub not_several : (lines : Bool) (e x bytes : List ℕ) (r : Form) → ((w : NumberWord) → r ≡ form.ListAndNumber w → ⊥)
+    → ((w : TimeWord) → r ≡ form.ListAndTime w → ⊥) → ((w : PairWord) → r ≡ form.TwoLists w → ⊥) → answer_by lines e r (x ∷ parts space_byte bytes) ≡ e
+not_several lines e x bytes (form.List w) k h p = too_many e x bytes (of_list lines w)
+not_several lines e x bytes form.Hex k h p = too_many e x bytes (of_hex e)
+not_several lines e x bytes (form.ListAndNumber w) k h p = absurd (k w refl)
+not_several lines e x bytes (form.ListAndTime w) k h p = absurd (h w refl)
+not_several lines e x bytes (form.TwoLists w) k h p = absurd (p w refl)
+not_several lines e x bytes form.None k h p = refl
 
 -- ---- the length of a line
 

@@ -1,0 +1,9 @@
+-- `command::answer` meets its contract. Assumes nothing.
+use borrow.Author.Rules.{rules}
+use Rattle.ascii.proofs.Putting.{from_start_lem}
+use Rattle.command.proofs.answer.Goals as goal
+
+pub returns : goal.returns
+returns c =
+    let put-answer = c.put_answer in
+    let e = from_start_lem put-answer.ensures.puts in record { count = e.0; holds = e.1; short = put-answer.ensures.short }

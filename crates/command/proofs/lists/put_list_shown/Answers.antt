@@ -1,0 +1,22 @@
+-- `command::lists::put_list_shown` meets its contract: the list is refused, or it is shown. Assumes nothing.
+use borrow.Author.Rules.{rules}
+use native.Mathlib.Omega.{arith}
+use Rattle.ascii.specs.Refusal.{refusal_at}
+use Rattle.ascii.proofs.Putting.{few}
+use Rattle.text.proofs.Sound.{read_formed}
+use Rattle.schedule.proofs.ByReading.{read_refused, read_taken}
+use Rattle.command.proofs.lists.put_list_shown.Goals as goal
+
+pub returns-then-number-ne0 : goal.returns-then-number-ne0
+returns-then-number-ne0 c =
+    let put-refusal-at = c.put_refusal_at in
+    let read-list = c.read_list-number in
+    let if1 = c.if-number-ne0 in
+    few put-refusal-at.ensures (read_refused (read_formed _) read-list.ensures refusal_at _ if1.true) (omega arith)
+
+pub returns : goal.returns
+returns c =
+    let put-shown = c.put_shown in
+    let read-list = c.read_list-number in
+    let if1 = c.if-number-ne0 in
+    few put-shown.ensures (read_taken (read_formed _) read-list.ensures refusal_at _ if1.false) (omega arith)

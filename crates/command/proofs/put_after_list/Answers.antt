@@ -1,0 +1,30 @@
+-- `command::put_after_list` meets its contract: a day and more, or too few fields. Assumes nothing.
+use borrow.Author.Rules.{rules}
+use native.Mathlib.Omega.{arith}
+use Rattle.ascii.proofs.Putting.{few}
+use mathlib.Core.Path.{sym}
+use lib.Seq.{length-take-le}
+use Rattle.ascii.proofs.Fields.{only, first_and_rest}
+use Rattle.command.proofs.put_after_list.Goals as goal
+
+pub slice_bounds-put_of_time-end : goal.slice_bounds-put_of_time-end
+slice_bounds-put_of_time-end c =
+    let args = c.args in
+    let if1 = c.if-end-rest in
+    sym (length-take-le _ args.rest.now (omega (arith, if1.true)))
+
+pub returns-then-end-rest : goal.returns-then-end-rest
+returns-then-end-rest c =
+    let put-of-time = c.put_of_time in
+    let args = c.args in
+    let part-end = c.part_end-end in
+    let if1 = c.if-end-rest in
+    few put-of-time.ensures (rw (first_and_rest 32 args.rest.now _ part-end.ensures if1.true)) (omega arith)
+
+pub returns : goal.returns
+returns c =
+    let put-expected = c.put_expected in
+    let args = c.args in
+    let part-end = c.part_end-end in
+    let if1 = c.if-end-rest in
+    few put-expected.ensures (rw (only 32 args.rest.now _ part-end.ensures if1.false)) (omega arith)

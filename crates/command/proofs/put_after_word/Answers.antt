@@ -1,0 +1,30 @@
+-- `command::put_after_word` meets its contract: a first field is the last, or more follow. Assumes nothing.
+use borrow.Author.Rules.{rules}
+use native.Mathlib.Omega.{arith}
+use Rattle.ascii.proofs.Putting.{few}
+use mathlib.Core.Path.{sym}
+use lib.Seq.{length-take-le}
+use Rattle.ascii.proofs.Fields.{only, first_and_rest}
+use Rattle.command.proofs.put_after_word.Goals as goal
+
+pub slice_bounds-put_after_field-end : goal.slice_bounds-put_after_field-end
+slice_bounds-put_after_field-end c =
+    let args = c.args in
+    let if1 = c.if-end-rest in
+    sym (length-take-le _ args.rest.now (omega (arith, if1.true)))
+
+pub returns-then-end-rest : goal.returns-then-end-rest
+returns-then-end-rest c =
+    let put-after-field = c.put_after_field in
+    let args = c.args in
+    let part-end = c.part_end-end in
+    let if1 = c.if-end-rest in
+    few put-after-field.ensures (rw (first_and_rest 32 args.rest.now _ part-end.ensures if1.true)) (omega arith)
+
+pub returns : goal.returns
+returns c =
+    let put-with-one = c.put_with_one in
+    let args = c.args in
+    let part-end = c.part_end-end in
+    let if1 = c.if-end-rest in
+    few put-with-one.ensures (rw (only 32 args.rest.now _ part-end.ensures if1.false)) (omega arith)

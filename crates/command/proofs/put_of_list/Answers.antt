@@ -1,0 +1,18 @@
+-- `command::put_of_list` meets its contract: each word that takes a list alone. Assumes nothing.
+use borrow.Author.Rules.{rules}
+use native.Mathlib.Omega.{arith}
+use Rattle.ascii.proofs.Putting.{few}
+use Rattle.command.specs.Answer.{of_list}
+use Rattle.command.proofs.put_of_list.Goals as goal
+
+pub returns-in-Show : goal.returns-in-Show
+unfolding of_list
+returns-in-Show c =
+    let put-list-shown = c.put_list_shown in
+    few put-list-shown.ensures (rw c.in-Show.is) (omega arith)
+
+pub returns-in-Nybbles : goal.returns-in-Nybbles
+unfolding of_list
+returns-in-Nybbles c =
+    let put-list-nybbles = c.put_list_nybbles in
+    few put-list-nybbles.ensures (rw c.in-Nybbles.is) (omega arith)
