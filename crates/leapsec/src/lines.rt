@@ -3,8 +3,8 @@
 ghost use Rattle.std.specs.Prelude.{◌+◌, ◌≤◌, length};
 
 use crate::output::print_answer;
-use libc::STDIN_FILENO;
-use shell::output::{within, write};
+use shell::output::{say, within, write};
+use std::io::Read;
 use stream::Step;
 
 // A line that is longer than 8,192 bytes is no question, whatever it has behind them, and one that is longer than 4,096 is no line of a trace. So
@@ -28,24 +28,24 @@ struct Rest {
 
 // Reads once, behind the bytes that are held, and goes on unless the input has ended. Where reading fails, that is said, and nothing is left: the
 // rest of what is held is not known.
-fn read_behind(buffer: &mut [u8], held: usize) -> Rest
+fn read_behind(rt: &HostRuntime, buffer: &mut [u8], held: usize) -> Rest
     requires { held ≤ length buffer.old }
     ensures { (result.from ≤ result.to) × (result.to ≤ length buffer.new) }
 {
-    let got = libc::read(STDIN_FILENO, &mut buffer[held..]);
-    if got < 0 {
-        os::fail(b"leapsec: standard input");
-        return Rest {
+    match rt.stdin().read(&mut buffer[held..]) {
+        Ok(count) => Rest {
             from: 0,
-            to: 0,
-            goes_on: false,
-        };
-    }
-    let count = io::count(got, &buffer[held..]);
-    Rest {
-        from: 0,
-        to: held + count,
-        goes_on: 0 < count,
+            to: held + count,
+            goes_on: 0 < count,
+        },
+        Err(error) => {
+            say(rt, "standard input", error);
+            Rest {
+                from: 0,
+                to: 0,
+                goes_on: false,
+            }
+        }
     }
 }
 
@@ -64,7 +64,7 @@ fn answer_lines(
 }
 
 // Writes the answer to a last line that has no LF, if there is one: a question, or in a trace refusal 20.
-fn print_last(line: &[u8], replays: bool) {
+fn print_last(rt: &HostRuntime, line: &[u8], replays: bool) {
     if line.len() == 0 {
         return;
     }
@@ -72,14 +72,15 @@ fn print_last(line: &[u8], replays: bool) {
         let mut out = [0u8; replay::MAX_PRINTED];
         let w = replay::replay_end(line, &mut out);
         let n = within(w.count, &out);
-        write(&out[..n]);
+        write(rt, &out[..n]);
         return;
     }
-    print_answer(line, false);
+    print_answer(rt, line, false);
 }
 
 // Writes the answers to complete lines at the start of an input, as many as a buffer has room for. No bytes are used where no line is complete.
 fn answer_some(
+    rt: &HostRuntime,
     input: &[u8],
     replays: bool,
     current: &mut [u32; 514],
@@ -90,7 +91,7 @@ fn answer_some(
     let mut out = io::large_buffer();
     let step = answer_lines(input, replays, current, stored, &mut out);
     let n = within(step.written, &out);
-    let is_written = write(&out[..n]);
+    let is_written = write(rt, &out[..n]);
     let used = within(step.used, input);
     Answered { used, is_written }
 }
@@ -116,22 +117,23 @@ fn hold(buffer: &mut [u8], from: usize, to: usize) -> usize
 }
 
 // Reads where no line is complete; at the end of the input answers the last line, if it has no LF.
-fn more(buffer: &mut [u8], from: usize, to: usize, replays: bool) -> Rest
+fn more(rt: &HostRuntime, buffer: &mut [u8], from: usize, to: usize, replays: bool) -> Rest
     requires { (from ≤ to) × (to ≤ length buffer.old) }
     ensures { (result.from ≤ result.to) × (result.to ≤ length buffer.new) }
 {
     let held = hold(buffer, from, to);
-    let rest = read_behind(buffer, held);
+    let rest = read_behind(rt, buffer, held);
     if rest.goes_on {
         return rest;
     }
     let end = rest.to;
-    print_last(&buffer[..end], replays);
+    print_last(rt, &buffer[..end], replays);
     rest
 }
 
 // Answers complete lines, or reads where no line is complete.
 fn turn(
+    rt: &HostRuntime,
     buffer: &mut [u8],
     from: usize,
     to: usize,
@@ -142,9 +144,9 @@ fn turn(
     requires { (from ≤ to) × (to ≤ length buffer.old) }
     ensures { (result.from ≤ result.to) × (result.to ≤ length buffer.new) }
 {
-    let done = answer_some(&buffer[from..to], replays, current, stored);
+    let done = answer_some(rt, &buffer[from..to], replays, current, stored);
     if done.used == 0 {
-        return more(buffer, from, to, replays);
+        return more(rt, buffer, from, to, replays);
     }
     Rest {
         from: from + done.used,
@@ -155,7 +157,7 @@ fn turn(
 
 // Answers the lines of standard input to its end: questions, or a trace, which starts with two blank lists. A proved loop has to end, and nothing
 // says that an input does: so the turns are counted down, from a number that no run uses up.
-pub(crate) fn answer(replays: bool) {
+pub(crate) fn answer(rt: &HostRuntime, replays: bool) {
     let mut buffer = io::large_buffer();
     let mut current = [0u32; 514];
     let mut stored = [0u32; 514];
@@ -163,7 +165,15 @@ pub(crate) fn answer(replays: bool) {
     let mut to: usize = 0;
     let mut turns = u64::MAX;
     while turns > 0 {
-        let t = turn(&mut buffer, from, to, replays, &mut current, &mut stored);
+        let t = turn(
+            rt,
+            &mut buffer,
+            from,
+            to,
+            replays,
+            &mut current,
+            &mut stored,
+        );
         if !t.goes_on {
             return;
         }

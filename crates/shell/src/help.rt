@@ -4,8 +4,9 @@ use crate::words::{Own, own_of};
 use line::words::{Word, word_of};
 
 // Writes what the program answers.
-pub fn print() {
+pub fn print(rt: &HostRuntime) {
     write(
+        rt,
         b"Answers questions about leap seconds, under a list of them.\n\
 \n\
 leapsec show LIST                DTAI from which day to which, and from when it is unknown\n\
@@ -48,8 +49,9 @@ The numbers:\n\
     );
 }
 
-fn print_show() {
+fn print_show(rt: &HostRuntime) {
     write(
+        rt,
         b"leapsec show LIST\n\
 A line for each stretch of days with one DTAI: its first day, its last day and DTAI.\n\
 Then the day from which on DTAI is unknown.\n\
@@ -61,8 +63,9 @@ $ leapsec show '6+5?'\n\
     );
 }
 
-fn print_nybbles() {
+fn print_nybbles(rt: &HostRuntime) {
     write(
+        rt,
         b"leapsec nybbles LIST\n\
 The list as nybbles, in hex, in the one spelling of the writer.\n\
 \n\
@@ -71,8 +74,9 @@ $ leapsec nybbles '6+5?'\n\
     );
 }
 
-fn print_text() {
+fn print_text(rt: &HostRuntime) {
     write(
+        rt,
         b"leapsec text HEX\n\
 A nybble list as text. Hex digits of either case are read, and every spelling of a list.\n\
 \n\
@@ -81,8 +85,9 @@ $ leapsec text 0F\n\
     );
 }
 
-fn print_dtai() {
+fn print_dtai(rt: &HostRuntime) {
     write(
+        rt,
         b"leapsec dtai LIST MJD\n\
 TAI minus UTC on a day, in seconds.\n\
 \n\
@@ -91,8 +96,9 @@ $ leapsec dtai current 57754\n\
     );
 }
 
-fn print_tai() {
+fn print_tai(rt: &HostRuntime) {
     write(
+        rt,
         b"leapsec tai LIST MJD MICROS\n\
 The TAI of an instant of UTC, in microseconds from 1972-01-01 00:00:00 TAI.\n\
 \n\
@@ -101,8 +107,9 @@ $ leapsec tai '6+5?' 41498 86400000000\n\
     );
 }
 
-fn print_utc() {
+fn print_utc(rt: &HostRuntime) {
     write(
+        rt,
         b"leapsec utc LIST TAI\n\
 The instant of UTC that has this TAI: the day and the microseconds of it.\n\
 \n\
@@ -111,8 +118,9 @@ $ leapsec utc '6+5?' 15724810000000\n\
     );
 }
 
-fn print_uts() {
+fn print_uts(rt: &HostRuntime) {
     write(
+        rt,
         b"leapsec uts LIST MJD MICROS\n\
 The smoothed time of an instant of UTC, in nanoseconds of the day.\n\
 \n\
@@ -121,8 +129,9 @@ $ leapsec uts '6+5?' 41498 86400000000\n\
     );
 }
 
-fn print_unsmooth() {
+fn print_unsmooth(rt: &HostRuntime) {
     write(
+        rt,
         b"leapsec unsmooth LIST MJD NANOS\n\
 The microseconds of the UTC day at a smoothed time: the greatest whose smoothed time is not above it.\n\
 \n\
@@ -131,8 +140,9 @@ $ leapsec unsmooth '6+5?' 41498 86399001000000\n\
     );
 }
 
-fn print_compare() {
+fn print_compare(rt: &HostRuntime) {
     write(
+        rt,
         b"leapsec compare LIST LIST\n\
 A line for each month, from 0 (January 1972) on, at which either list has a leap and their marks differ:\n\
 the month, the first list's mark and the second's. A mark is + or -, 0 for no leap, or ? from the list's\n\
@@ -150,8 +160,9 @@ contradict\n",
     );
 }
 
-fn print_longer() {
+fn print_longer(rt: &HostRuntime) {
     write(
+        rt,
         b"leapsec longer LIST LIST\n\
 Of two lists the one that extends the other (see leapsec help compare), the first if they are the same.\n\
 !16 if neither does: the lists contradict each other. Where a list does not read, ! and its number.\n\
@@ -161,8 +172,9 @@ $ leapsec longer '6+5?' '6+6+5?'\n\
     );
 }
 
-fn print_ask() {
+fn print_ask(rt: &HostRuntime) {
     write(
+        rt,
         b"leapsec ask\n\
 Answers the questions on standard input, one a line, by one line each. Between the lines of show and of\n\
 compare stands `; `.\n\
@@ -173,8 +185,9 @@ $ printf 'dtai current 57753\\nshow 5?\\n' | leapsec ask\n\
     );
 }
 
-fn print_replay() {
+fn print_replay(rt: &HostRuntime) {
     write(
+        rt,
         b"leapsec replay\n\
 Replays a recorded trace from standard input, a line at a time. At the start no list is in use, and none is stored.\n\
 L LIST        use this text list (not the word current); if it is refused, ! and its number, and the list in use stays\n\
@@ -190,8 +203,9 @@ $ printf 'L 6+5?\\nQ 41498 86400000000\\n' | leapsec replay\n\
     );
 }
 
-fn print_help() {
+fn print_help(rt: &HostRuntime) {
     write(
+        rt,
         b"leapsec help WORD\n\
 More about a word: show, nybbles, text, dtai, tai, utc, uts, unsmooth, compare, longer, ask, replay or help.\n\
 Without one, all of them.\n\
@@ -201,35 +215,36 @@ leapsec utc LIST TAI\n",
     );
 }
 
-fn print_expected() {
+fn print_expected(rt: &HostRuntime) {
     write(
+        rt,
         b"? expected: help WORD, WORD being show, nybbles, text, dtai, tai, utc, uts, unsmooth, compare, longer, ask, replay or help\n",
     );
 }
 
 // Writes what a word of the program's own does, or what was expected.
-fn print_own(word: &[u8]) {
+fn print_own(rt: &HostRuntime, word: &[u8]) {
     match own_of(word) {
-        Own::Ask => print_ask(),
-        Own::Replay => print_replay(),
-        Own::Help => print_help(),
-        Own::Other => print_expected(),
+        Own::Ask => print_ask(rt),
+        Own::Replay => print_replay(rt),
+        Own::Help => print_help(rt),
+        Own::Other => print_expected(rt),
     }
 }
 
 // Writes what a word asks, with an example.
-pub fn print_word(word: &[u8]) {
+pub fn print_word(rt: &HostRuntime, word: &[u8]) {
     match word_of(word) {
-        Word::Show => print_show(),
-        Word::Nybbles => print_nybbles(),
-        Word::Text => print_text(),
-        Word::Dtai => print_dtai(),
-        Word::Tai => print_tai(),
-        Word::Utc => print_utc(),
-        Word::Uts => print_uts(),
-        Word::Unsmooth => print_unsmooth(),
-        Word::Compare => print_compare(),
-        Word::Longer => print_longer(),
-        Word::Other => print_own(word),
+        Word::Show => print_show(rt),
+        Word::Nybbles => print_nybbles(rt),
+        Word::Text => print_text(rt),
+        Word::Dtai => print_dtai(rt),
+        Word::Tai => print_tai(rt),
+        Word::Utc => print_utc(rt),
+        Word::Uts => print_uts(rt),
+        Word::Unsmooth => print_unsmooth(rt),
+        Word::Compare => print_compare(rt),
+        Word::Longer => print_longer(rt),
+        Word::Other => print_own(rt, word),
     }
 }

@@ -1,7 +1,7 @@
-// Standard output.
+// Standard output, and what is said on standard error.
 ghost use Rattle.io.specs.Counts.{IsPrefixLen};
 
-use libc::STDOUT_FILENO;
+use std::io;
 
 // A number of bytes, but no more than there are.
 pub fn within(n: usize, bytes: &[u8]) -> usize
@@ -13,11 +13,32 @@ pub fn within(n: usize, bytes: &[u8]) -> usize
     bytes.len()
 }
 
-// Writes bytes, or says that it can't and answers false.
-pub fn write(bytes: &[u8]) -> bool {
-    let is_written = io::write_all(STDOUT_FILENO, bytes);
-    if !is_written {
-        os::fail(b"leapsec: standard output");
+// A system's message without its number.
+fn without_number(message: &str) -> &str {
+    match message.split_once(" (os error ") {
+        Some((words, _)) => words,
+        None => message,
     }
-    is_written
+}
+
+fn try_say(rt: &HostRuntime, what: &str, error: io::Error) -> io::Result<()> {
+    let message = format!(in rt.alloc(); "{error}")?;
+    let why = without_number(message.as_str());
+    eprintln!(rt; "leapsec: {what}: {why}")
+}
+
+// Says on standard error what failed, and the system's word for why.
+pub fn say(rt: &HostRuntime, what: &str, error: io::Error) {
+    let _ = try_say(rt, what, error);
+}
+
+// Writes bytes, or says that it can't and answers false.
+pub fn write(rt: &HostRuntime, bytes: &[u8]) -> bool {
+    match rt.write_all(bytes) {
+        Ok(()) => true,
+        Err(error) => {
+            say(rt, "standard output", error);
+            false
+        }
+    }
 }
