@@ -1,4 +1,4 @@
-// The C interface. A schedule is the C struct leap_schedule, 514 words; include/leap.h says what each function answers.
+// The calls of the C interface, which the crate leap_c hands to C under the same names. A schedule is the C struct leap_schedule, 514 words; include/leap.h says what each function answers.
 #![tactic(auto)]
 
 ghost use Rattle.std.specs.Prelude.{length, pos};
@@ -22,16 +22,14 @@ use clock::{TaiMicros, UtcMicros, UtsNanos, answers};
 use refusals::NOT_WELL_FORMED;
 
 // Reads a compact text list.
-#[unsafe(no_mangle)]
-pub extern "C" fn leap_read_text(bytes: &[u8], out: &mut [u32; 514], place: &mut u64) -> u8
+pub fn leap_read_text(bytes: &[u8], out: &mut [u32; 514], place: &mut u64) -> u8
     ensures { HandsReading (read_text bytes.now) result out.new place.new }
 {
     text::read_text(bytes, out, place)
 }
 
 // Writes the compact text list of a schedule.
-#[unsafe(no_mangle)]
-pub extern "C" fn leap_write_text(words: &[u32; 514], out: &mut [u8], count: &mut u64) -> u8
+pub fn leap_write_text(words: &[u32; 514], out: &mut [u8], count: &mut u64) -> u8
     ensures { HandsWriting (meant words.now) (text_of (meant words.now)) out.old result count.new out.new }
 {
     let w = text::write_text(words, out);
@@ -40,16 +38,14 @@ pub extern "C" fn leap_write_text(words: &[u32; 514], out: &mut [u8], count: &mu
 }
 
 // Reads a nybble list.
-#[unsafe(no_mangle)]
-pub extern "C" fn leap_read_nybbles(bytes: &[u8], out: &mut [u32; 514], place: &mut u64) -> u8
+pub fn leap_read_nybbles(bytes: &[u8], out: &mut [u32; 514], place: &mut u64) -> u8
     ensures { HandsReading (read_nybbles bytes.now) result out.new place.new }
 {
     nybbles::read_nybbles(bytes, out, place)
 }
 
 // Writes the nybble list of a schedule.
-#[unsafe(no_mangle)]
-pub extern "C" fn leap_write_nybbles(words: &[u32; 514], out: &mut [u8], count: &mut u64) -> u8
+pub fn leap_write_nybbles(words: &[u32; 514], out: &mut [u8], count: &mut u64) -> u8
     ensures { HandsWriting (meant words.now) (nybbles_of (meant words.now)) out.old result count.new out.new }
 {
     let w = nybbles::write_nybbles(words, out);
@@ -58,13 +54,7 @@ pub extern "C" fn leap_write_nybbles(words: &[u32; 514], out: &mut [u8], count: 
 }
 
 // Compares two text lists.
-#[unsafe(no_mangle)]
-pub extern "C" fn leap_compare_text(
-    first: &[u8],
-    second: &[u8],
-    out: &mut [u8],
-    count: &mut u64,
-) -> u8
+pub fn leap_compare_text(first: &[u8], second: &[u8], out: &mut [u8], count: &mut u64) -> u8
     ensures { HandsBytes (comparing first.now second.now (length out.old)) (compared_into first.now second.now out.old) result count.new out.new }
 {
     let w = compare::lines::compare_text(first, second, out);
@@ -73,8 +63,7 @@ pub extern "C" fn leap_compare_text(
 }
 
 // Hands back the caller's own bytes of the longer of two text lists.
-#[unsafe(no_mangle)]
-pub extern "C" fn leap_longer_text<'a>(first: &'a [u8], second: &'a [u8], part: &mut &'a [u8]) -> u8
+pub fn leap_longer_text<'a>(first: &'a [u8], second: &'a [u8], part: &mut &'a [u8]) -> u8
     ensures { HandsBack (chosen first.now second.now) first.entry second.entry part.new result }
 {
     let mut number: u8 = 0;
@@ -83,8 +72,7 @@ pub extern "C" fn leap_longer_text<'a>(first: &'a [u8], second: &'a [u8], part: 
 }
 
 // Whether a list extends another.
-#[unsafe(no_mangle)]
-pub extern "C" fn leap_extends(longer: &[u32; 514], shorter: &[u32; 514], yes: &mut u8) -> u8
+pub fn leap_extends(longer: &[u32; 514], shorter: &[u32; 514], yes: &mut u8) -> u8
     ensures { HandsValue 0 (extension (meant longer.now) (meant shorter.now)) result yes.new }
 {
     if schedule::extends(longer, shorter) {
@@ -102,8 +90,7 @@ pub extern "C" fn leap_extends(longer: &[u32; 514], shorter: &[u32; 514], yes: &
 }
 
 // DTAI for a date.
-#[unsafe(no_mangle)]
-pub extern "C" fn leap_dtai(words: &[u32; 514], mjd: u64, dtai: &mut i32) -> u8
+pub fn leap_dtai(words: &[u32; 514], mjd: u64, dtai: &mut i32) -> u8
     ensures { HandsValue (pos 0) (dtai_on (meant words.now) mjd) result dtai.new }
 {
     let a = questions::dtai(words, mjd);
@@ -112,8 +99,7 @@ pub extern "C" fn leap_dtai(words: &[u32; 514], mjd: u64, dtai: &mut i32) -> u8
 }
 
 // UTC to TAI.
-#[unsafe(no_mangle)]
-pub extern "C" fn leap_utc_to_tai(words: &[u32; 514], mjd: u64, micros: u64, tai: &mut u64) -> u8
+pub fn leap_utc_to_tai(words: &[u32; 514], mjd: u64, micros: u64, tai: &mut u64) -> u8
     ensures { HandsValue 0 (utc_to_tai (meant words.now) mjd micros) result tai.new }
 {
     let a = questions::utc_to_tai(words, mjd, UtcMicros(micros));
@@ -122,13 +108,7 @@ pub extern "C" fn leap_utc_to_tai(words: &[u32; 514], mjd: u64, micros: u64, tai
 }
 
 // TAI to UTC.
-#[unsafe(no_mangle)]
-pub extern "C" fn leap_tai_to_utc(
-    words: &[u32; 514],
-    tai: u64,
-    mjd: &mut u64,
-    micros: &mut u64,
-) -> u8
+pub fn leap_tai_to_utc(words: &[u32; 514], tai: u64, mjd: &mut u64, micros: &mut u64) -> u8
     ensures { HandsUtc (tai_to_utc (meant words.now) tai) result mjd.new micros.new }
 {
     let a = questions::tai_to_utc(words, TaiMicros(tai));
@@ -138,8 +118,7 @@ pub extern "C" fn leap_tai_to_utc(
 }
 
 // UTC to smoothed time.
-#[unsafe(no_mangle)]
-pub extern "C" fn leap_utc_to_uts(words: &[u32; 514], mjd: u64, micros: u64, nanos: &mut u64) -> u8
+pub fn leap_utc_to_uts(words: &[u32; 514], mjd: u64, micros: u64, nanos: &mut u64) -> u8
     ensures { HandsValue 0 (utc_to_uts (meant words.now) mjd micros) result nanos.new }
 {
     let a = questions::utc_to_uts(words, mjd, UtcMicros(micros));
@@ -148,8 +127,7 @@ pub extern "C" fn leap_utc_to_uts(words: &[u32; 514], mjd: u64, micros: u64, nan
 }
 
 // Smoothed time to UTC.
-#[unsafe(no_mangle)]
-pub extern "C" fn leap_uts_to_utc(words: &[u32; 514], mjd: u64, nanos: u64, micros: &mut u64) -> u8
+pub fn leap_uts_to_utc(words: &[u32; 514], mjd: u64, nanos: u64, micros: &mut u64) -> u8
     ensures { HandsValue 0 (uts_to_utc (meant words.now) mjd nanos) result micros.new }
 {
     let a = questions::uts_to_utc(words, mjd, UtsNanos(nanos));
@@ -158,21 +136,14 @@ pub extern "C" fn leap_uts_to_utc(words: &[u32; 514], mjd: u64, nanos: u64, micr
 }
 
 // DTAI for many dates.
-#[unsafe(no_mangle)]
-pub extern "C" fn leap_dtai_many(
-    words: &[u32; 514],
-    mjd: &[u64],
-    numbers: &mut [u8],
-    dtai: &mut [i32],
-) -> u64
+pub fn leap_dtai_many(words: &[u32; 514], mjd: &[u64], numbers: &mut [u8], dtai: &mut [i32]) -> u64
     ensures { HandsMany (pos 0) (map (dtai_on (meant words.now)) mjd.now) numbers.old dtai.old result numbers.new dtai.new }
 {
     many::dtai(words, mjd, numbers, dtai)
 }
 
 // UTC to TAI for many instants.
-#[unsafe(no_mangle)]
-pub extern "C" fn leap_utc_to_tai_many(
+pub fn leap_utc_to_tai_many(
     words: &[u32; 514],
     mjd: &[u64],
     micros: &[u64],
@@ -185,8 +156,7 @@ pub extern "C" fn leap_utc_to_tai_many(
 }
 
 // TAI to UTC for many.
-#[unsafe(no_mangle)]
-pub extern "C" fn leap_tai_to_utc_many(
+pub fn leap_tai_to_utc_many(
     words: &[u32; 514],
     tai: &[u64],
     numbers: &mut [u8],
@@ -199,8 +169,7 @@ pub extern "C" fn leap_tai_to_utc_many(
 }
 
 // UTC to smoothed time for many instants.
-#[unsafe(no_mangle)]
-pub extern "C" fn leap_utc_to_uts_many(
+pub fn leap_utc_to_uts_many(
     words: &[u32; 514],
     mjd: &[u64],
     micros: &[u64],
@@ -213,8 +182,7 @@ pub extern "C" fn leap_utc_to_uts_many(
 }
 
 // Smoothed time to UTC for many instants.
-#[unsafe(no_mangle)]
-pub extern "C" fn leap_uts_to_utc_many(
+pub fn leap_uts_to_utc_many(
     words: &[u32; 514],
     mjd: &[u64],
     nanos: &[u64],
@@ -227,8 +195,7 @@ pub extern "C" fn leap_uts_to_utc_many(
 }
 
 // Replays the complete lines of a piece of a trace, from a current and a stored list.
-#[unsafe(no_mangle)]
-pub extern "C" fn leap_replay(
+pub fn leap_replay(
     current: &mut [u32; 514],
     stored: &mut [u32; 514],
     trace: &[u8],
@@ -249,8 +216,7 @@ pub extern "C" fn leap_replay(
 }
 
 // Ends a trace, by what stands after its last LF.
-#[unsafe(no_mangle)]
-pub extern "C" fn leap_replay_end(left: &[u8], out: &mut [u8], written: &mut u64) -> u8
+pub fn leap_replay_end(left: &[u8], out: &mut [u8], written: &mut u64) -> u8
     ensures { HandsBytes (fitting (unended left.now) (length out.old)) (fitted (unended left.now) out.old) result written.new out.new }
 {
     let w = replay::replay_end(left, out);
