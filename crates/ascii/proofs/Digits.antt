@@ -1,18 +1,18 @@
 -- The digits of a number mean it, and are read back as it; and what each byte makes of the reading of a number.
 -- Assumes nothing.
 use mathlib.Core.Path.{◌≡◌, refl, sym, ap, ◌∙◌}
-use mathlib.Core.Bool.{Bool, true, false, cond, ◌&&◌, and-eq-true_iff}
+use mathlib.Core.Bool.{true, false, cond, ◌&&◌, and-eq-true_iff}
 use mathlib.Core.List.{List, [], ◌∷◌, ◌++◌, append_assoc}
 use Prim.Native.Nat.{ℕ, zero, suc, ◌+◌, ◌-◌, ◌*◌, ◌/◌, ◌%◌, ◌^◌, ◌≤◌, ◌<◌}
 use native.Mathlib.Nat.{pow-suc, mul_assoc, mul_comm, mul-le-mul_left, mul-le-mul_right}
 use native.Mathlib.Omega.{arith}
-use lib.Dec.{ltb, leb, eqb}
+use lib.Dec.{ltb, leb}
 use lib.ListN.{length, get_or, drop, length-append, drop_of_length-le}
 use borrow.Author.Tests.{ltb-true, ltb-false, lt-ltb, le-ltb, leb-true, le-leb, lt-leb}
 use Rattle.ascii.specs.Ascii.{within}
 use Rattle.ascii.specs.declared.decimal.Number.{Number}
 use Rattle.ascii.specs.declared.decimal.Number.TheVariants.{Given, Missing}
-use Rattle.ascii.specs.Decimal.{digit, digits_in, decimal, pair, is_digit, all_digits, value_after, is_empty, max_number, is_number, number_of}
+use Rattle.ascii.specs.Decimal.{digit, digits_in, decimal, pair, is_digit, all_digits, value_after, max_number, number_of}
 use Rattle.ascii.specs.Private.{eight}
 use Rattle.ascii.proofs.Cases.{by_bool}
 use Rattle.ascii.proofs.Lists.{uncons}

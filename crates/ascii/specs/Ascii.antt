@@ -1,7 +1,7 @@
 -- The bytes of ASCII texts, and those that the other definitions name.
 -- Assumes nothing: these are definitions.
 use Rattle.std.specs.Prelude.{ℕ, Bool, ◌&&◌, List, [], ◌∷◌, leb}
-use Prim.Native.Char.{Char, code}
+use Prim.Native.Char.{code}
 use Prim.Native.String.{String, [] as none, ◌∷◌ as more}
 
 -- the bytes of an ASCII text

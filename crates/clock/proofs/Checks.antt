@@ -15,7 +15,7 @@ use Rattle.schedule.proofs.Cases.{by_bool}
 use Rattle.clock.specs.Days.{long_day, ending, day_length}
 use Rattle.clock.specs.Smoothed.{nanos_per_day}
 use Rattle.clock.specs.Known.{last_day, fully_known, nanos_cutoff, known_to, known_date}
-use Rattle.refusals.specs.Answer.{Answer, given, refused, require, number}
+use Rattle.refusals.specs.Answer.{Answer, given, require, number}
 use Rattle.clock.specs.Question.{at_date, at_instant, at_utc, at_uts}
 use Rattle.clock.specs.Taken.{Within}
 use Rattle.refusals.proofs.Checks.{pass, required, given_is, through}

@@ -3,7 +3,6 @@
 -- Assumes nothing: these are definitions.
 use Rattle.std.specs.Prelude.{true, List, ◌≡◌, ℕ, ◌+◌, ◌*◌, ◌≤◌, ◌<◌, min, length, get_or, take}
 use Rattle.calendar.specs.Calendar.{end_day, month_start}
-use Rattle.schedule.specs.declared.Sign.{Sign}
 use Rattle.schedule.specs.declared.Sign.TheVariants.{Positive, Negative}
 use Rattle.schedule.specs.Schedule.{Schedule, no_leap, well_formed}
 use Rattle.clock.specs.Known.{last_day}

@@ -1,6 +1,6 @@
 -- The schedule that words mean: that of a list leap by leap, and that of the words of a schedule.
 -- Assumes nothing.
-use Rattle.std.proofs.Common.{◌≡◌, ℕ, zero, suc, ◌+◌, ◌-◌, ◌*◌, ◌/◌, ◌%◌, ◌<◌, ◌≤◌, Bool, true, false, ◌&&◌, eqb, ltb, ◌↔◌, List, length, get_or, sym, refl, ap, ◌∙◌, true≢false, not-suc-le-zero, arith, ext_get_or, ltb-true, lt-ltb, eqb-true}
+use Rattle.std.proofs.Common.{◌≡◌, ℕ, zero, suc, ◌+◌, ◌*◌, ◌/◌, ◌%◌, ◌<◌, ◌≤◌, Bool, true, false, ◌&&◌, eqb, ltb, ◌↔◌, List, length, get_or, sym, refl, ap, ◌∙◌, true≢false, not-suc-le-zero, arith, ext_get_or, ltb-true, lt-ltb, eqb-true}
 use mathlib.Core.Bool.{and-eq-true_iff}
 use native.Mathlib.Decide.{dec_lt}
 use borrow.Author.Tests.{eqb-false}

@@ -1,7 +1,6 @@
 -- `calendar::computed_start` meets its contract: no step of the closed form wraps or falls below zero, and it gives the month's start.
 -- Assumes nothing.
 use native.Mathlib.Omega.{arith}
-use borrow.Author.Rules.{rules}
 use Rattle.calendar.proofs.Gregorian.{closed_form}
 use Rattle.calendar.proofs.computed_start.Goals as goal
 

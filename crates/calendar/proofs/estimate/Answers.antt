@@ -1,6 +1,5 @@
 -- `calendar::estimate` meets its contract: no step of it wraps or falls below zero, and it is at most one month off.
 -- Assumes nothing.
-use borrow.Author.Rules.{rules}
 use Rattle.calendar.proofs.Near.{at_most_one_off}
 use Rattle.calendar.proofs.estimate.Goals as goal
 

@@ -1,7 +1,6 @@
 -- `calendar::is_first` meets its contract: the latest month starts on that day, or it is no first day. Assumes nothing.
 use mathlib.Core.Path.{◌≡◌, ◌∙◌, ap}
 use Prim.Native.Nat.{ℕ, min}
-use borrow.Author.Rules.{rules}
 use lib.Dec.{eqb}
 use Rattle.calendar.specs.Calendar.{last_month, month_start, month_of, starts_month}
 use Rattle.calendar.proofs.Laws.{start_min, month_most}

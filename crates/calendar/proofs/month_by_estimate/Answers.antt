@@ -1,7 +1,6 @@
 -- `calendar::month_by_estimate` meets its contract: where the estimate's month starts after the day, it is the next one, else the day's own.
 -- Assumes nothing.
 use native.Mathlib.Omega.{arith}
-use borrow.Author.Rules.{rules}
 use Rattle.calendar.proofs.Laws.{month_below}
 use Rattle.calendar.proofs.Near.{is_next, is_own}
 use Rattle.calendar.proofs.month_by_estimate.Goals as goal

@@ -2,7 +2,6 @@
 -- Assumes nothing.
 use mathlib.Core.Path.{◌∙◌, sym, ap}
 use native.Mathlib.Omega.{arith}
-use borrow.Author.Rules.{rules}
 use Rattle.calendar.specs.Calendar.{found}
 use Rattle.calendar.proofs.Laws.{at_early, at_late, at_given}
 use Rattle.calendar.proofs.month_of.Goals as goal

@@ -1,5 +1,4 @@
 -- `command::answer` meets its contract. Assumes nothing.
-use borrow.Author.Rules.{rules}
 use Rattle.ascii.proofs.Putting.{from_start_lem}
 use Rattle.command.proofs.answer.Goals as goal
 

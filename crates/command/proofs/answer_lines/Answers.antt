@@ -1,11 +1,9 @@
 -- `command::answer_lines` meets its contract. The loop's invariant: `Going`. Assumes nothing.
 use borrow.Author.Rules.{rules}
 use native.Mathlib.Omega.{arith}
-use Prim.Native.Nat.{◌-◌}
 use mathlib.Core.Path.{refl}
-use lib.ListN.{length}
 use Rattle.ascii.proofs.Putting.{up_to, a_byte}
-use Rattle.stream.proofs.Streams.{Going, begin, kept, full, end_inside, last, before_end, step}
+use Rattle.stream.proofs.Streams.{begin, kept, full, end_inside, last, before_end, step}
 use Rattle.command.specs.Lines.{answer_line, asking}
 use Rattle.command.proofs.answer_lines.Goals as goal
 

@@ -1,11 +1,7 @@
-use borrow.Author.Rules.{rules}
-use native.Mathlib.Omega.{arith}
 use Prim.Native.Nat.{◌-◌}
-use mathlib.Core.Path.{refl}
 use lib.ListN.{length}
-use Rattle.ascii.proofs.Putting.{up_to, a_byte}
-use Rattle.stream.proofs.Streams.{Going, begin, kept, full, end_inside, last, before_end, step}
-use Rattle.command.specs.Lines.{answer_line, asking}
+use Rattle.stream.proofs.Streams.{Going}
+use Rattle.command.specs.Lines.{asking}
 use Rattle.command.proofs.answer_lines.Given as goal
 
 abbrev pub invariant-loop-out : goal.invariant-loop-out

@@ -1,5 +1,4 @@
 -- `command::put_after_field` meets its contract: a form of several fields, and the others. Assumes nothing.
-use borrow.Author.Rules.{rules}
 use native.Mathlib.Omega.{arith}
 use Rattle.ascii.proofs.Putting.{few}
 use mathlib.Core.Path.{◌∙◌}

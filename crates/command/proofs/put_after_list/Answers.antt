@@ -1,5 +1,4 @@
 -- `command::put_after_list` meets its contract: a day and more, or too few fields. Assumes nothing.
-use borrow.Author.Rules.{rules}
 use native.Mathlib.Omega.{arith}
 use Rattle.ascii.proofs.Putting.{few}
 use mathlib.Core.Path.{sym}

@@ -1,5 +1,4 @@
 -- `command::put_after_word` meets its contract: a first field is the last, or more follow. Assumes nothing.
-use borrow.Author.Rules.{rules}
 use native.Mathlib.Omega.{arith}
 use Rattle.ascii.proofs.Putting.{few}
 use mathlib.Core.Path.{sym}

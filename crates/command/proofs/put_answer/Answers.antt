@@ -1,5 +1,4 @@
 -- `command::put_answer` meets its contract: the line is too long, has a word and more, or is one word. Assumes nothing.
-use borrow.Author.Rules.{rules}
 use native.Mathlib.Omega.{arith}
 use mathlib.Core.Path.{sym, ◌∙◌}
 use lib.Seq.{length-take-le}

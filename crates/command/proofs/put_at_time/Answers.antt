@@ -1,5 +1,4 @@
 -- `command::put_at_time` meets its contract: each word that takes a list, a day and a time. Assumes nothing.
-use borrow.Author.Rules.{rules}
 use native.Mathlib.Omega.{arith}
 use Rattle.ascii.proofs.Putting.{few}
 use Rattle.command.proofs.put_at_time.Goals as goal

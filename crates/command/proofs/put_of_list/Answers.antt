@@ -1,5 +1,4 @@
 -- `command::put_of_list` meets its contract: each word that takes a list alone. Assumes nothing.
-use borrow.Author.Rules.{rules}
 use native.Mathlib.Omega.{arith}
 use Rattle.ascii.proofs.Putting.{few}
 use Rattle.command.specs.Answer.{of_list}

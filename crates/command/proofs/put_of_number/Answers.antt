@@ -1,5 +1,4 @@
 -- `command::put_of_number` meets its contract: the number is the last field, or there is none, and each word that takes a list and a number. Assumes nothing.
-use borrow.Author.Rules.{rules}
 use native.Mathlib.Omega.{arith}
 use Rattle.ascii.proofs.Putting.{few}
 use mathlib.Core.Path.{◌∙◌}

@@ -1,5 +1,4 @@
 -- `command::put_of_pair` meets its contract: a second list is the last field, and each word that takes two lists. Assumes nothing.
-use borrow.Author.Rules.{rules}
 use native.Mathlib.Omega.{arith}
 use Rattle.ascii.proofs.Putting.{few}
 use mathlib.Core.Path.{◌∙◌}

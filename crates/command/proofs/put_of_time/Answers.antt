@@ -1,5 +1,4 @@
 -- `command::put_of_time` meets its contract: the time is the last field, or a number is missing. Assumes nothing.
-use borrow.Author.Rules.{rules}
 use native.Mathlib.Omega.{arith}
 use Rattle.ascii.proofs.Putting.{few}
 use mathlib.Core.Path.{◌∙◌}

@@ -1,6 +1,5 @@
 -- `figures::expiries` is safe and ends: its loop goes over the six days. Assumes nothing.
 use Prim.Native.Nat.{◌≤◌, ◌-◌}
-use borrow.Author.Rules.{rules}
 use Rattle.figures.proofs.expiries.Given as goal
 
 abbrev pub invariant-loop-i : goal.invariant-loop-i

@@ -1,6 +1,5 @@
 -- `figures::months` is safe and ends: its loop goes over the four months. Assumes nothing.
 use Prim.Native.Nat.{◌≤◌, ◌-◌}
-use borrow.Author.Rules.{rules}
 use Rattle.figures.proofs.months.Given as goal
 
 abbrev pub invariant-loop-i : goal.invariant-loop-i

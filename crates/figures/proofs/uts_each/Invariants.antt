@@ -1,6 +1,5 @@
 -- `figures::uts_each` is safe and ends: its loop goes over the microseconds. Assumes nothing.
 use Prim.Native.Nat.{◌≤◌, ◌-◌}
-use borrow.Author.Rules.{rules}
 use lib.ListN.{length}
 use Rattle.figures.proofs.uts_each.Given as goal
 

@@ -1,6 +1,5 @@
 -- `leap::leap_dtai` meets its contract. Assumes nothing.
 use mathlib.Core.Path.{◌∙◌}
-use borrow.Author.Rules.{rules}
 use lib.IntN.{pos}
 use Rattle.clock.specs.Answers.{dtai_answer, dtai_number, dtai_value}
 use Rattle.clock.proofs.Numbers.{dtai_told, hands_value}

@@ -1,5 +1,4 @@
 -- `leap::leap_extends` meets its contract. Assumes nothing.
-use borrow.Author.Rules.{rules}
 use Rattle.refusals.proofs.Checks.{passed, failed}
 use Rattle.schedule.specs.WordLayout.{meant}
 use Rattle.leap.proofs.Extension.{longer_wrong, shorter_wrong, found_so, found_not}

@@ -1,5 +1,4 @@
 -- `leap::leap_replay` meets its contract: the output has the room, or not. Assumes nothing.
-use borrow.Author.Rules.{rules}
 use Rattle.leap.proofs.Handed.{hands_short, hands_replay}
 use Rattle.leap.proofs.leap_replay.Goals as goal
 

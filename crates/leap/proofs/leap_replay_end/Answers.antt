@@ -1,5 +1,4 @@
 -- `leap::leap_replay_end` meets its contract. Assumes nothing.
-use borrow.Author.Rules.{rules}
 use Rattle.leap.proofs.Handed.{hands_bytes}
 use Rattle.leap.proofs.leap_replay_end.Goals as goal
 

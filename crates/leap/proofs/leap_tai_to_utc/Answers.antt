@@ -1,5 +1,4 @@
 -- `leap::leap_tai_to_utc` meets its contract. Assumes nothing.
-use borrow.Author.Rules.{rules}
 use Rattle.clock.proofs.Numbers.{hands_utc}
 use Rattle.leap.proofs.leap_tai_to_utc.Goals as goal
 

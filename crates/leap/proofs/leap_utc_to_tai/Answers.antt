@@ -1,5 +1,4 @@
 -- `leap::leap_utc_to_tai` meets its contract. Assumes nothing.
-use borrow.Author.Rules.{rules}
 use Rattle.clock.specs.Answers.{tai_answer, tai_number, tai_value}
 use Rattle.clock.proofs.Numbers.{tai_told, hands_value}
 use Rattle.leap.proofs.leap_utc_to_tai.Goals as goal

@@ -1,5 +1,4 @@
 -- `leap::leap_utc_to_uts` meets its contract. Assumes nothing.
-use borrow.Author.Rules.{rules}
 use Rattle.clock.specs.Answers.{uts_answer, uts_number, uts_value}
 use Rattle.clock.proofs.Numbers.{uts_told, hands_value}
 use Rattle.leap.proofs.leap_utc_to_uts.Goals as goal

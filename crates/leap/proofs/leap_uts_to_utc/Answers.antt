@@ -1,5 +1,4 @@
 -- `leap::leap_uts_to_utc` meets its contract. Assumes nothing.
-use borrow.Author.Rules.{rules}
 use Rattle.clock.specs.Answers.{micros_answer, micros_number, micros_value}
 use Rattle.clock.proofs.Numbers.{micros_told, hands_value}
 use Rattle.leap.proofs.leap_uts_to_utc.Goals as goal

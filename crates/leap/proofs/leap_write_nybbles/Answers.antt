@@ -1,5 +1,4 @@
 -- `leap::leap_write_nybbles` meets its contract. Assumes nothing.
-use borrow.Author.Rules.{rules}
 use Rattle.leap.proofs.Handed.{hands_bytes}
 use Rattle.leap.proofs.leap_write_nybbles.Goals as goal
 

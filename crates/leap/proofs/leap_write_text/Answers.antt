@@ -1,5 +1,4 @@
 -- `leap::leap_write_text` meets its contract. Assumes nothing.
-use borrow.Author.Rules.{rules}
 use Rattle.leap.proofs.Handed.{hands_bytes}
 use Rattle.leap.proofs.leap_write_text.Goals as goal
 

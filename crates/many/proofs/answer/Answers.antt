@@ -1,5 +1,4 @@
 -- `many::answer` meets its contract. Assumes nothing.
-use borrow.Author.Rules.{rules}
 use Rattle.schedule.specs.WordLayout.{meant}
 use Rattle.many.proofs.Answering.{hands_two, refuses_two, none_asked}
 use Rattle.refusals.proofs.Checks.{passed, failed}

@@ -1,6 +1,5 @@
 -- `many::dtai` meets its contract. Assumes nothing.
 use native.Mathlib.Omega.{arith}
-use borrow.Author.Rules.{rules}
 use Rattle.refusals.specs.Refusals.{not_well_formed}
 use Rattle.schedule.specs.WordLayout.{meant}
 use Rattle.clock.specs.Question.{dtai_on}

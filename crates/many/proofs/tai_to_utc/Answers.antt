@@ -1,5 +1,4 @@
 -- `many::tai_to_utc` meets its contract. Assumes nothing.
-use borrow.Author.Rules.{rules}
 use Rattle.refusals.specs.Refusals.{not_well_formed}
 use Rattle.schedule.specs.WordLayout.{meant}
 use Rattle.clock.specs.Question.{tai_to_utc}

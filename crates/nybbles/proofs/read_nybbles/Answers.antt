@@ -1,8 +1,5 @@
 -- `nybbles::read_nybbles` meets its contract. The loop's invariant: the words have the schedule so far, and reading on gives the answer. Assumes nothing.
-use Prim.Native.Nat.{◌*◌, ◌-◌}
 use native.Mathlib.Omega.{arith}
-use lib.ListN.{length}
-use borrow.Author.Rules.{rules}
 use Rattle.nybbles.proofs.Codes as codes
 use Rattle.nybbles.proofs.Reading as reading
 use Rattle.nybbles.proofs.read_nybbles.Goals as goal

@@ -1,8 +1,5 @@
 use Prim.Native.Nat.{◌*◌, ◌-◌}
-use native.Mathlib.Omega.{arith}
 use lib.ListN.{length}
-use borrow.Author.Rules.{rules}
-use Rattle.nybbles.proofs.Codes as codes
 use Rattle.nybbles.proofs.Reading as reading
 use Rattle.nybbles.proofs.read_nybbles.Given as goal
 

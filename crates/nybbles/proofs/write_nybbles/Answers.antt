@@ -1,7 +1,6 @@
 -- `write_nybbles` meets its contract: one answer for a list that can't be written, one for a short output, one for a list that fits.
 -- Assumes nothing.
 use mathlib.Core.Path.{refl, sym, ◌∙◌}
-use borrow.Author.Rules.{rules}
 use Rattle.schedule.proofs.Answers as answers
 use Rattle.nybbles.proofs.Packed as packed
 use Rattle.nybbles.proofs.write_nybbles.Goals as goal

@@ -1,5 +1,5 @@
 -- `questions::dtai` meets its contract. Assumes nothing.
-use Rattle.std.proofs.Common.{ap, ◌∙◌, rules}
+use Rattle.std.proofs.Common.{ap, ◌∙◌}
 use Rattle.clock.specs.Answers.{dtai_answer}
 use Rattle.questions.proofs.LaidOut.{last_meant}
 use Rattle.questions.proofs.Said.{dtai_said_lem}

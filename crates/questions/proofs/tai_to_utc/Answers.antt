@@ -1,5 +1,5 @@
 -- `questions::tai_to_utc` meets its contract. Assumes nothing.
-use Rattle.std.proofs.Common.{◌≡◌, true, ap, ◌∙◌, rules}
+use Rattle.std.proofs.Common.{◌≡◌, true, ap, ◌∙◌}
 use Rattle.schedule.specs.Schedule.{well_formed}
 use Rattle.schedule.specs.WordLayout.{meant}
 use Rattle.clock.specs.Known.{last_day}

@@ -1,5 +1,5 @@
 -- `questions::utc_to_tai` meets its contract. Assumes nothing.
-use Rattle.std.proofs.Common.{ap, ◌∙◌, rules}
+use Rattle.std.proofs.Common.{ap, ◌∙◌}
 use Rattle.clock.specs.Answers.{tai_answer}
 use Rattle.questions.proofs.LaidOut.{last_meant}
 use Rattle.questions.proofs.Said.{tai_said_lem}

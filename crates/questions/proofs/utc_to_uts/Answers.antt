@@ -1,5 +1,5 @@
 -- `questions::utc_to_uts` meets its contract: early in the day, and later. Assumes nothing.
-use Rattle.std.proofs.Common.{ap, ◌∙◌, rules}
+use Rattle.std.proofs.Common.{ap, ◌∙◌}
 use Rattle.clock.specs.Answers.{uts_answer}
 use Rattle.questions.proofs.LaidOut.{last_meant, list_meant}
 use Rattle.questions.proofs.Said.{early_uts_said, uts_said}

@@ -1,5 +1,5 @@
 -- `questions::uts_to_utc` meets its contract: early in the day, and later. Assumes nothing.
-use Rattle.std.proofs.Common.{ap, ◌∙◌, rules}
+use Rattle.std.proofs.Common.{ap, ◌∙◌}
 use Rattle.clock.specs.Answers.{micros_answer}
 use Rattle.questions.proofs.LaidOut.{last_meant, list_meant}
 use Rattle.questions.proofs.Said.{early_micros_said, micros_said}

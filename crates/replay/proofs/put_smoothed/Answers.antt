@@ -1,5 +1,4 @@
 -- `replay::put_smoothed` meets its contract: the time, or the refusal. Assumes nothing.
-use borrow.Author.Rules.{rules}
 use native.Mathlib.Omega.{arith}
 use Rattle.ascii.proofs.Putting.{few}
 use Rattle.replay.proofs.put_smoothed.Goals as goal

@@ -1,11 +1,8 @@
 -- `replay::replay` meets its contract. The loop's invariant: `Going`. Assumes nothing.
 use borrow.Author.Rules.{rules}
 use native.Mathlib.Omega.{arith}
-use Prim.Native.Nat.{◌-◌}
-use lib.ListN.{length}
-use Rattle.stream.proofs.Streams.{Going, begin, kept, full, end_inside, last, before_end, step}
+use Rattle.stream.proofs.Streams.{begin, kept, full, end_inside, last, before_end, step}
 use Rattle.replay.specs.Replay.{replaying}
-use Rattle.replay.proofs.Arms.{held}
 use Rattle.replay.proofs.replay.Goals as goal
 
 pub loop-out-init : goal.loop-out-init

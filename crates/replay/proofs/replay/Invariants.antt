@@ -1,8 +1,6 @@
-use borrow.Author.Rules.{rules}
-use native.Mathlib.Omega.{arith}
 use Prim.Native.Nat.{◌-◌}
 use lib.ListN.{length}
-use Rattle.stream.proofs.Streams.{Going, begin, kept, full, end_inside, last, before_end, step}
+use Rattle.stream.proofs.Streams.{Going}
 use Rattle.replay.specs.Replay.{replaying}
 use Rattle.replay.proofs.Arms.{held}
 use Rattle.replay.proofs.replay.Given as goal

@@ -1,5 +1,4 @@
 -- `replay::replay_end` meets its contract: nothing is left, or something, and there is room for refusal 20 or not. Assumes nothing.
-use borrow.Author.Rules.{rules}
 use native.Mathlib.Omega.{arith}
 use Rattle.replay.proofs.Arms.{end_nothing, end_short, end_some}
 use Rattle.replay.proofs.replay_end.Goals as goal

@@ -1,5 +1,4 @@
 -- `replay::replay_line` meets its contract: each thing that a line can say. Assumes nothing.
-use borrow.Author.Rules.{rules}
 use mathlib.Core.Path.{sym, ◌∙◌}
 use Rattle.replay.proofs.Saying.{uses}
 use Rattle.replay.proofs.Arms.{use_line, store_line, reset_line, ask_line, other_line}

@@ -1,5 +1,4 @@
 -- `replay::use_list` meets its contract: the list is refused, or taken. Assumes nothing.
-use borrow.Author.Rules.{rules}
 use Rattle.replay.proofs.Arms.{list_refused, list_taken}
 use Rattle.replay.proofs.use_list.Goals as goal
 

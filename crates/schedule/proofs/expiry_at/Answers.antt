@@ -1,5 +1,5 @@
 -- `schedule::expiry_at` meets its contract. Assumes nothing.
-use Rattle.std.proofs.Common.{min, sym, ap, ◌∙◌, arith, rules}
+use Rattle.std.proofs.Common.{min, sym, ap, ◌∙◌, arith}
 use Rattle.schedule.specs.Schedule.{last_month, month_start}
 use Rattle.calendar.proofs.Laws.{start_last, start_to}
 use Rattle.schedule.proofs.expiry_at.Goals as goal

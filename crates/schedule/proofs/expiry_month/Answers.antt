@@ -1,5 +1,5 @@
 -- `schedule::expiry_month` meets its contract. Assumes nothing.
-use Rattle.std.proofs.Common.{ap, ◌∙◌, rules}
+use Rattle.std.proofs.Common.{ap, ◌∙◌}
 use Rattle.schedule.specs.Schedule.{month_of}
 use Rattle.schedule.proofs.expiry_month.Goals as goal
 

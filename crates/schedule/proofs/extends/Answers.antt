@@ -1,6 +1,5 @@
 -- `schedule::extends` meets its contract. Assumes nothing.
-use Rattle.std.proofs.Common.{sym, ◌∙◌, rules}
-use borrow.Author.Tests.{not-true, not-false}
+use Rattle.std.proofs.Common.{sym, ◌∙◌}
 use Rattle.schedule.proofs.extends.Goals as goal
 
 pub returns-then-not-is_list : goal.returns-then-not-is_list

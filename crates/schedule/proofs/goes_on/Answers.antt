@@ -1,6 +1,5 @@
 -- `schedule::goes_on` meets its contract. Assumes nothing.
-use Rattle.std.proofs.Common.{◌≤◌, sym, ap, ◌∙◌, arith, rules}
-use borrow.Author.Tests.{not-true, not-false}
+use Rattle.std.proofs.Common.{◌≤◌, sym, ap, ◌∙◌, arith}
 use Rattle.schedule.specs.WordLayout.{month_word, meant}
 use Rattle.schedule.proofs.Meant.{expiry_is, count_room}
 use Rattle.schedule.proofs.GoesOn.{earlier, fewer, others, as_many, tells}

@@ -1,5 +1,5 @@
 -- `schedule::is_list` meets its contract. Assumes nothing.
-use Rattle.std.proofs.Common.{sym, rules}
+use Rattle.std.proofs.Common.{sym}
 use Rattle.schedule.proofs.Meant.{too_many, too_late, unfit, list_by}
 use Rattle.schedule.proofs.is_list.Goals as goal
 

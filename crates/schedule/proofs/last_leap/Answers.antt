@@ -1,5 +1,5 @@
 -- `schedule::last_leap` meets its contract. Assumes nothing.
-use Rattle.std.proofs.Common.{◌-◌, sym, ap, ◌∙◌, arith, rules}
+use Rattle.std.proofs.Common.{◌-◌, sym, ap, ◌∙◌, arith}
 use Rattle.schedule.specs.Schedule.{Leap}
 use Rattle.schedule.specs.WordLayout.{meant}
 use Rattle.schedule.proofs.Meant.{count_is, leap_at_lem}

@@ -1,5 +1,5 @@
 -- `schedule::month_at` meets its contract. Assumes nothing.
-use Rattle.std.proofs.Common.{sym, arith, rules}
+use Rattle.std.proofs.Common.{sym, arith}
 use Rattle.schedule.proofs.WordLayout.{month_in_place, month_past}
 use Rattle.schedule.proofs.month_at.Goals as goal
 

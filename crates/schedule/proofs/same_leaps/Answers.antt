@@ -1,6 +1,6 @@
 -- `schedule::same_leaps` meets its contract. Assumes nothing.
-use Rattle.std.proofs.Common.{◌≡◌, ◌-◌, ◌*◌, ◌≤◌, arith, rules}
-use Rattle.schedule.proofs.Clear.{Differing, differing_none, differing_one, differing_tells}
+use Rattle.std.proofs.Common.{◌≡◌, ◌*◌, arith}
+use Rattle.schedule.proofs.Clear.{differing_none, differing_one, differing_tells}
 use Rattle.schedule.proofs.same_leaps.Goals as goal
 
 pub loop-j-init : goal.loop-j-init

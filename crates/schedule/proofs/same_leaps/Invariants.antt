@@ -1,5 +1,5 @@
-use Rattle.std.proofs.Common.{◌≡◌, ◌-◌, ◌*◌, ◌≤◌, arith, rules}
-use Rattle.schedule.proofs.Clear.{Differing, differing_none, differing_one, differing_tells}
+use Rattle.std.proofs.Common.{◌-◌, ◌*◌, ◌≤◌}
+use Rattle.schedule.proofs.Clear.{Differing}
 use Rattle.schedule.proofs.same_leaps.Given as goal
 
 abbrev pub invariant-loop-j : goal.invariant-loop-j

@@ -1,5 +1,5 @@
 -- `schedule::sign_at` meets its contract. Assumes nothing.
-use Rattle.std.proofs.Common.{sym, ap, ◌∙◌, arith, rules}
+use Rattle.std.proofs.Common.{sym, ap, ◌∙◌, arith}
 use Rattle.schedule.specs.WordLayout.{sign_of}
 use Rattle.schedule.proofs.WordLayout.{sign_in_place, sign_past}
 use Rattle.schedule.proofs.sign_at.Goals as goal

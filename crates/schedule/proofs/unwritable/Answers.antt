@@ -1,6 +1,5 @@
 -- `schedule::unwritable` meets its contract. Assumes nothing.
-use Rattle.std.proofs.Common.{sym, ◌∙◌, rules}
-use borrow.Author.Tests.{not-true, not-false}
+use Rattle.std.proofs.Common.{sym, ◌∙◌}
 use Rattle.schedule.specs.WordLayout.{meant}
 use Rattle.schedule.proofs.Answers.{not_formed, has_gap, without_gap}
 use Rattle.schedule.proofs.Meant.{expiry_is}

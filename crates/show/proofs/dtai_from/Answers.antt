@@ -1,5 +1,4 @@
 -- `show::dtai_from` meets its contract: the clock gives DTAI on that day. Assumes nothing.
-use borrow.Author.Rules.{rules}
 use native.Mathlib.Omega.{arith}
 use mathlib.Core.Path.{◌≡◌, sym, ap, ◌∙◌}
 use Prim.Native.Nat.{ℕ}

@@ -1,5 +1,4 @@
 -- `show::put_date` meets its contract: the year, the month and the day, with `-` between them. Assumes nothing.
-use borrow.Author.Rules.{rules}
 use native.Mathlib.Omega.{arith}
 use mathlib.Core.Path.{refl}
 use Rattle.ascii.proofs.Putting.{up_to, a_byte, text_put}

@@ -1,5 +1,4 @@
 -- `show::put_day` meets its contract: the month of the day, and the day's number in it. Assumes nothing.
-use borrow.Author.Rules.{rules}
 use native.Mathlib.Omega.{arith}
 use mathlib.Core.Path.{◌≡◌, ap, ◌∙◌}
 use Prim.Native.Nat.{ℕ, min}

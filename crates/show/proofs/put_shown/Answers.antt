@@ -1,5 +1,4 @@
 -- `show::put_shown` meets its contract: the words are a list, or they are not. Assumes nothing.
-use borrow.Author.Rules.{rules}
 use native.Mathlib.Omega.{arith}
 use Rattle.ascii.proofs.Putting.{few}
 use Rattle.refusals.proofs.Checks.{passed, failed}

@@ -1,5 +1,4 @@
 -- `show::put_stretch` meets its contract: the first day, the last day, and DTAI, with a space between them. Assumes nothing.
-use borrow.Author.Rules.{rules}
 use native.Mathlib.Omega.{arith}
 use mathlib.Core.Path.{refl}
 use Rattle.schedule.specs.WordLayout.{meant}

@@ -4,7 +4,6 @@ use mathlib.Core.Path.{◌≡◌, refl, ap}
 use Prim.Native.Nat.{ℕ, suc, ◌+◌}
 use lib.ListN.{length, length-set}
 use Rattle.text.proofs.Digits as digits
-use borrow.Author.Rules.{rules}
 use Rattle.text.proofs.put_gap.Goals as goal
 
 add-two : (n : ℕ) → n + 2 ≡ suc (suc n)

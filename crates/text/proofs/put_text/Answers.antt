@@ -1,11 +1,9 @@
 -- `text::put_text` meets its contract. The loop's invariant: what is still to be stored makes the whole text. Assumes nothing.
 use mathlib.Core.Path.{ap, ◌∙◌}
-use Prim.Native.Nat.{◌≤◌, ◌-◌}
 use native.Mathlib.Omega.{arith}
 use borrow.Author.Rules.{rules}
 use lib.ListN.{length}
 use lib.Seq.{length-sets}
-use Rattle.schedule.specs.WordLayout.{meant}
 use Rattle.text.specs.Bytes.{sign_byte, end_byte}
 use Rattle.text.specs.Write.{marked}
 use Rattle.text.proofs.Steps as steps

@@ -1,5 +1,4 @@
 -- `text::read_text` meets its contract: the recursion starts at the blank schedule, of which nothing is in the words. Assumes nothing.
-use borrow.Author.Rules.{rules}
 use Rattle.schedule.specs.Schedule.{blank_schedule}
 use Rattle.schedule.proofs.SoFar.{so_far_blank}
 use Rattle.text.specs.Read.{read_text}

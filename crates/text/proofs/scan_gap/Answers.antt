@@ -2,11 +2,8 @@
 use borrow.Author.Rules.{rules}
 use native.Mathlib.Omega.{arith}
 use native.Mathlib.Nat.{pos_of_ne-zero, lt_irrefl, lt_of_lt_of_le}
-use mathlib.Core.Path.{◌≡◌, refl, ◌∙◌, sym}
-use Prim.Native.Nat.{ℕ, ◌≤◌, ◌-◌}
-use lib.ListN.{length, drop, get_or}
-use Rattle.schedule.specs.Schedule.{Schedule}
-use Rattle.text.specs.Read.{read_from}
+use mathlib.Core.Path.{refl, ◌∙◌, sym}
+use lib.ListN.{get_or}
 use Rattle.text.proofs.Follow.{digit_low, digit_high, leading_zero, fourth_digit, follows}
 use Rattle.text.proofs.Laws as laws
 use Rattle.text.proofs.scan_gap.Goals as goal

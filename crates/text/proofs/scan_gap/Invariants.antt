@@ -1,13 +1,8 @@
-use borrow.Author.Rules.{rules}
-use native.Mathlib.Omega.{arith}
-use native.Mathlib.Nat.{pos_of_ne-zero, lt_irrefl, lt_of_lt_of_le}
-use mathlib.Core.Path.{◌≡◌, refl, ◌∙◌, sym}
+use mathlib.Core.Path.{◌≡◌}
 use Prim.Native.Nat.{ℕ, ◌≤◌, ◌-◌}
-use lib.ListN.{length, drop, get_or}
+use lib.ListN.{length, drop}
 use Rattle.schedule.specs.Schedule.{Schedule}
 use Rattle.text.specs.Read.{read_from}
-use Rattle.text.proofs.Follow.{digit_low, digit_high, leading_zero, fourth_digit, follows}
-use Rattle.text.proofs.Laws as laws
 use Rattle.text.proofs.scan_gap.Given as goal
 
 abbrev pub invariant-loop-at : goal.invariant-loop-at

@@ -1,5 +1,4 @@
 -- `text::stop` meets its contract: in each arm the gap is the arm's constructor, at which `stopped` computes. Assumes nothing.
-use borrow.Author.Rules.{rules}
 use mathlib.Core.Path.{sym, ap}
 use Rattle.text.specs.Read.{stopped}
 use Rattle.text.proofs.stop.Goals as goal

@@ -1,8 +1,7 @@
 -- `text::text_len` meets its contract. The loop's invariant: the bytes counted so far and those of the rest make the text. Assumes nothing.
-use Prim.Native.Nat.{◌≤◌, ◌-◌, ◌*◌}
+use Prim.Native.Nat.{◌-◌}
 use native.Mathlib.Omega.{arith}
 use borrow.Author.Rules.{rules}
-use Rattle.schedule.specs.WordLayout.{meant}
 use Rattle.text.specs.Bytes.{end_byte}
 use Rattle.text.proofs.Digits.{few}
 use Rattle.text.proofs.Steps as steps

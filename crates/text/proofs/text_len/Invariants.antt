@@ -1,11 +1,6 @@
 use Prim.Native.Nat.{◌≤◌, ◌-◌, ◌*◌}
-use native.Mathlib.Omega.{arith}
-use borrow.Author.Rules.{rules}
 use Rattle.schedule.specs.WordLayout.{meant}
-use Rattle.text.specs.Bytes.{end_byte}
-use Rattle.text.proofs.Digits.{few}
-use Rattle.text.proofs.Steps as steps
-use Rattle.text.proofs.Steps.{Standing, marked_length}
+use Rattle.text.proofs.Steps.{Standing}
 use Rattle.text.proofs.text_len.Given as goal
 
 abbrev pub invariant-loop-i : goal.invariant-loop-i

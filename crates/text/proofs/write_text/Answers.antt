@@ -3,7 +3,6 @@ use mathlib.Core.Path.{◌≡◌, sym, ap, ◌∙◌}
 use mathlib.Core.List.{List}
 use Prim.Native.Nat.{ℕ}
 use native.Mathlib.Omega.{arith}
-use borrow.Author.Rules.{rules}
 use Rattle.schedule.specs.Schedule.{Schedule, month_of}
 use Rattle.schedule.specs.Answers.{unwritable, unwritten}
 use Rattle.schedule.proofs.Answers as answers

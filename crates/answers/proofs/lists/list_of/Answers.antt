@@ -1,5 +1,4 @@
 -- `answers::lists::list_of` meets its contract. Assumes nothing.
-use borrow.Author.Rules.{rules}
 use mathlib.Core.Path.{sym, ◌∙◌}
 use Rattle.answers.proofs.lists.list_of.Goals as goal
 

@@ -1,5 +1,4 @@
 -- `answers::lists::put_list_nybbles` meets its contract: the list is refused, or it is put as nybbles. Assumes nothing.
-use borrow.Author.Rules.{rules}
 use native.Mathlib.Omega.{arith}
 use Rattle.ascii.proofs.Putting.{few}
 use Rattle.text.proofs.Sound.{read_formed}

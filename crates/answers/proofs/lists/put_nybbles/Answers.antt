@@ -1,5 +1,4 @@
 -- `answers::lists::put_nybbles` meets its contract: 2,400 bytes are room enough for the nybble list. Assumes nothing.
-use borrow.Author.Rules.{rules}
 use native.Mathlib.Omega.{arith}
 use mathlib.Core.Path.{sym, ap}
 use mathlib.Core.List.{List}

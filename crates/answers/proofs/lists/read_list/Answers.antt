@@ -1,5 +1,4 @@
 -- `answers::lists::read_list` meets its contract. Assumes nothing.
-use borrow.Author.Rules.{rules}
 use Rattle.answers.specs.Lists.{list_of}
 use Rattle.answers.proofs.lists.read_list.Goals as goal
 

@@ -1,5 +1,4 @@
 -- `answers::pairs::put_comparison` meets its contract. Assumes nothing.
-use borrow.Author.Rules.{rules}
 use Rattle.answers.specs.Lists.{list_of}
 use Rattle.answers.proofs.pairs.put_comparison.Goals as goal
 

@@ -1,5 +1,4 @@
 -- `answers::pairs::put_longer` meets its contract. Assumes nothing.
-use borrow.Author.Rules.{rules}
 use Rattle.answers.specs.Lists.{list_of}
 use Rattle.answers.proofs.pairs.put_longer.Goals as goal
 

@@ -1,5 +1,4 @@
 -- `answers::pairs::put_longer_text` meets its contract: a text that is chosen is read, and so has few bytes. Assumes nothing.
-use borrow.Author.Rules.{rules}
 use native.Mathlib.Omega.{arith}
 use mathlib.Core.Path.{sym, ◌∙◌}
 use Rattle.ascii.proofs.Putting.{few, text_put}

@@ -1,5 +1,4 @@
 -- `answers::times::put_asked` meets its contract: the list is refused, or it is asked. Assumes nothing.
-use borrow.Author.Rules.{rules}
 use native.Mathlib.Omega.{arith}
 use Rattle.ascii.proofs.Putting.{few}
 use Rattle.text.proofs.Sound.{read_formed}

@@ -1,5 +1,4 @@
 -- `answers::times::put_asked_of` meets its contract: each question is answered by the clock's function for it. Assumes nothing.
-use borrow.Author.Rules.{rules}
 use native.Mathlib.Omega.{arith}
 use Rattle.ascii.proofs.Putting.{few}
 use Rattle.answers.proofs.Told.{of_dtai_lem, of_tai_lem, of_utc_lem, of_uts_lem, of_micros_lem}

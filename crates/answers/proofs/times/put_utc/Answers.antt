@@ -1,5 +1,4 @@
 -- `answers::times::put_utc` meets its contract: the values, or the refusal. Assumes nothing.
-use borrow.Author.Rules.{rules}
 use native.Mathlib.Omega.{arith}
 use Rattle.ascii.proofs.Putting.{few}
 use Rattle.answers.proofs.times.put_utc.Goals as goal

@@ -1,5 +1,4 @@
 -- `ascii::decimal::put_eight` meets its contract. Assumes nothing.
-use borrow.Author.Rules.{rules}
 use Rattle.ascii.proofs.Putting.{both}
 use Rattle.ascii.proofs.decimal.put_eight.Goals as goal
 

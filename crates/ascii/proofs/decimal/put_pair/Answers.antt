@@ -1,5 +1,4 @@
 -- `ascii::decimal::put_pair` meets its contract. Assumes nothing.
-use borrow.Author.Rules.{rules}
 use Rattle.ascii.proofs.Putting.{two_bytes}
 use Rattle.ascii.proofs.decimal.put_pair.Goals as goal
 

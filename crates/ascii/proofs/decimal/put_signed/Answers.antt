@@ -1,5 +1,4 @@
 -- `ascii::decimal::put_signed` meets its contract: the integer is below zero, or it is not. Assumes nothing.
-use borrow.Author.Rules.{rules}
 use native.Mathlib.Omega.{arith}
 use Rattle.ascii.proofs.Putting.{up_to, a_byte, few}
 use Rattle.ascii.proofs.Signs as signs

@@ -1,12 +1,8 @@
 -- `ascii::decimal::read_decimal` meets its contract. The loop's invariant: the bytes up to `i` are the digits of n, and the others decide.
 -- Assumes nothing.
 use borrow.Author.Rules.{rules}
-use borrow.Author.Tests.{not-true, not-false}
 use native.Mathlib.Omega.{arith}
-use mathlib.Core.Path.{◌≡◌, sym, ◌∙◌}
-use Prim.Native.Nat.{◌≤◌, ◌-◌}
-use lib.ListN.{length, drop}
-use Rattle.ascii.specs.Decimal.{max_number, number_of}
+use mathlib.Core.Path.{sym, ◌∙◌}
 use Rattle.ascii.proofs.Digits as digits
 use Rattle.ascii.proofs.Digits.{number_after}
 use Rattle.ascii.proofs.decimal.read_decimal.Goals as goal

@@ -1,11 +1,7 @@
-use borrow.Author.Rules.{rules}
-use borrow.Author.Tests.{not-true, not-false}
-use native.Mathlib.Omega.{arith}
-use mathlib.Core.Path.{◌≡◌, sym, ◌∙◌}
+use mathlib.Core.Path.{◌≡◌}
 use Prim.Native.Nat.{◌≤◌, ◌-◌}
 use lib.ListN.{length, drop}
 use Rattle.ascii.specs.Decimal.{max_number, number_of}
-use Rattle.ascii.proofs.Digits as digits
 use Rattle.ascii.proofs.Digits.{number_after}
 use Rattle.ascii.proofs.decimal.read_decimal.Given as goal
 

@@ -1,5 +1,4 @@
 -- `ascii::decimal::size_of` meets its contract. Assumes nothing.
-use borrow.Author.Rules.{rules}
 use Rattle.ascii.proofs.Signs as signs
 use Rattle.ascii.proofs.decimal.size_of.Goals as goal
 

@@ -1,5 +1,4 @@
 -- `ascii::hex::hex_digit` meets its contract. Assumes nothing.
-use borrow.Author.Rules.{rules}
 use borrow.Author.Tests.{lt-ltb, le-ltb}
 use Rattle.ascii.proofs.hex.hex_digit.Goals as goal
 

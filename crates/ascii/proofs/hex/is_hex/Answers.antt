@@ -1,10 +1,6 @@
 -- `ascii::hex::is_hex` meets its contract. The loop's invariant: the bytes up to `i` are hex digits. Assumes nothing.
 use borrow.Author.Rules.{rules}
-use borrow.Author.Tests.{not-true, not-false}
-use mathlib.Core.Path.{◌≡◌, refl, sym, ◌∙◌}
-use Prim.Native.Nat.{◌≤◌, ◌-◌}
-use lib.ListN.{length, drop}
-use Rattle.ascii.specs.Hex.{all_hex_digits}
+use mathlib.Core.Path.{refl, sym, ◌∙◌}
 use Rattle.ascii.proofs.Halves as halves
 use Rattle.ascii.proofs.hex.is_hex.Goals as goal
 

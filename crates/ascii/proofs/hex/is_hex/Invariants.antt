@@ -1,10 +1,7 @@
-use borrow.Author.Rules.{rules}
-use borrow.Author.Tests.{not-true, not-false}
-use mathlib.Core.Path.{◌≡◌, refl, sym, ◌∙◌}
+use mathlib.Core.Path.{◌≡◌}
 use Prim.Native.Nat.{◌≤◌, ◌-◌}
 use lib.ListN.{length, drop}
 use Rattle.ascii.specs.Hex.{all_hex_digits}
-use Rattle.ascii.proofs.Halves as halves
 use Rattle.ascii.proofs.hex.is_hex.Given as goal
 
 abbrev pub invariant-loop-i : goal.invariant-loop-i

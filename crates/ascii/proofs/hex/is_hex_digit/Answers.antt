@@ -1,5 +1,4 @@
 -- `ascii::hex::is_hex_digit` meets its contract. Assumes nothing.
-use borrow.Author.Rules.{rules}
 use mathlib.Core.Path.{sym, ◌∙◌}
 use Rattle.ascii.proofs.hex.is_hex_digit.Goals as goal
 

@@ -1,11 +1,8 @@
 -- `ascii::hex::put_hex` meets its contract. The loop's invariant: the hex of all but the bytes from `i` on is put. Assumes nothing.
 use borrow.Author.Rules.{rules}
 use native.Mathlib.Omega.{arith}
-use Prim.Native.Nat.{◌≤◌, ◌-◌}
-use lib.ListN.{length, drop}
-use Rattle.ascii.specs.Hex.{hex}
 use Rattle.ascii.proofs.Halves as halves
-use Rattle.ascii.proofs.Putting.{Left, start, step, end, same_long, two_bytes}
+use Rattle.ascii.proofs.Putting.{start, step, end, same_long, two_bytes}
 use Rattle.ascii.proofs.hex.put_hex.Goals as goal
 
 pub loop-i-init : goal.loop-i-init

@@ -1,10 +1,7 @@
-use borrow.Author.Rules.{rules}
-use native.Mathlib.Omega.{arith}
 use Prim.Native.Nat.{◌≤◌, ◌-◌}
 use lib.ListN.{length, drop}
 use Rattle.ascii.specs.Hex.{hex}
-use Rattle.ascii.proofs.Halves as halves
-use Rattle.ascii.proofs.Putting.{Left, start, step, end, same_long, two_bytes}
+use Rattle.ascii.proofs.Putting.{Left}
 use Rattle.ascii.proofs.hex.put_hex.Given as goal
 
 abbrev pub invariant-loop-i : goal.invariant-loop-i

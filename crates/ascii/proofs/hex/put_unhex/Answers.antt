@@ -2,12 +2,10 @@
 -- Assumes nothing.
 use borrow.Author.Rules.{rules}
 use native.Mathlib.Omega.{arith}
-use mathlib.Core.Path.{◌≡◌}
-use Prim.Native.Nat.{◌≤◌, ◌-◌, ◌+◌, ◌<◌}
-use lib.ListN.{length, drop}
-use Rattle.ascii.specs.Hex.{unhex}
+use Prim.Native.Nat.{◌≤◌, ◌+◌, ◌<◌}
+use lib.ListN.{length}
 use Rattle.ascii.proofs.Halves as halves
-use Rattle.ascii.proofs.Putting.{Left, start, step, end, same_long, put_pair_of}
+use Rattle.ascii.proofs.Putting.{start, step, end, same_long, put_pair_of}
 use Rattle.ascii.proofs.hex.put_unhex.Goals as goal
 
 pub loop-i-init : goal.loop-i-init

@@ -1,11 +1,7 @@
-use borrow.Author.Rules.{rules}
-use native.Mathlib.Omega.{arith}
-use mathlib.Core.Path.{◌≡◌}
-use Prim.Native.Nat.{◌≤◌, ◌-◌, ◌+◌, ◌<◌}
+use Prim.Native.Nat.{◌≤◌, ◌-◌}
 use lib.ListN.{length, drop}
 use Rattle.ascii.specs.Hex.{unhex}
-use Rattle.ascii.proofs.Halves as halves
-use Rattle.ascii.proofs.Putting.{Left, start, step, end, same_long, put_pair_of}
+use Rattle.ascii.proofs.Putting.{Left}
 use Rattle.ascii.proofs.hex.put_unhex.Given as goal
 
 abbrev pub invariant-loop-i : goal.invariant-loop-i

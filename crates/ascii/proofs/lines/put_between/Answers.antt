@@ -1,5 +1,4 @@
 -- `ascii::lines::put_between` meets its contract. Assumes nothing.
-use borrow.Author.Rules.{rules}
 use native.Mathlib.Omega.{arith}
 use Rattle.ascii.proofs.Putting.{up_to, few, a_byte}
 use Rattle.ascii.specs.Lines.{between}

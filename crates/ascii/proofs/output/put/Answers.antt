@@ -1,5 +1,4 @@
 -- `ascii::output::put` meets its contract: there is room, or there is none. Assumes nothing.
-use borrow.Author.Rules.{rules}
 use Rattle.ascii.proofs.Putting.{one, no_room}
 use Rattle.ascii.proofs.output.put.Goals as goal
 

@@ -1,10 +1,8 @@
 -- `ascii::output::put_all` meets its contract. The loop's invariant: all but the bytes from `i` on are put. Assumes nothing.
 use borrow.Author.Rules.{rules}
-use native.Mathlib.Omega.{arith}
-use Prim.Native.Nat.{◌≤◌, ◌-◌}
-use lib.ListN.{length, drop, drop_of_length-le}
+use lib.ListN.{drop_of_length-le}
 use Rattle.ascii.proofs.Lists.{uncons}
-use Rattle.ascii.proofs.Putting.{Left, start, step, end, same_long}
+use Rattle.ascii.proofs.Putting.{start, step, end, same_long}
 use Rattle.ascii.proofs.output.put_all.Goals as goal
 
 pub loop-i-init : goal.loop-i-init

@@ -1,9 +1,6 @@
-use borrow.Author.Rules.{rules}
-use native.Mathlib.Omega.{arith}
 use Prim.Native.Nat.{◌≤◌, ◌-◌}
-use lib.ListN.{length, drop, drop_of_length-le}
-use Rattle.ascii.proofs.Lists.{uncons}
-use Rattle.ascii.proofs.Putting.{Left, start, step, end, same_long}
+use lib.ListN.{length, drop}
+use Rattle.ascii.proofs.Putting.{Left}
 use Rattle.ascii.proofs.output.put_all.Given as goal
 
 abbrev pub invariant-loop-i : goal.invariant-loop-i

@@ -1,11 +1,7 @@
 -- `ascii::parts::part_end` meets its contract. The loop's invariant: the part reaches from `i` on as far as from the start on.
 -- Assumes nothing.
-use borrow.Author.Rules.{rules}
 use native.Mathlib.Omega.{arith}
-use mathlib.Core.Path.{◌≡◌, refl}
-use Prim.Native.Nat.{◌+◌, ◌-◌}
-use lib.ListN.{length, drop}
-use Rattle.ascii.specs.Parts.{first_part}
+use mathlib.Core.Path.{refl}
 use Rattle.ascii.proofs.Splitting as splitting
 use Rattle.ascii.proofs.parts.part_end.Goals as goal
 

@@ -1,10 +1,7 @@
 -- `ascii::parts::same` meets its contract. The loop's invariant: what is left of the two lists decides. Assumes nothing.
 use borrow.Author.Rules.{rules}
 use native.Mathlib.Omega.{arith}
-use mathlib.Core.Path.{◌≡◌, refl, sym, ◌∙◌}
-use Prim.Native.Nat.{◌≤◌, ◌-◌, ◌<◌}
-use lib.ListN.{length, drop}
-use Rattle.ascii.specs.Parts.{same}
+use mathlib.Core.Path.{refl, sym, ◌∙◌}
 use Rattle.ascii.proofs.Splitting as splitting
 use Rattle.ascii.proofs.parts.same.Goals as goal
 

@@ -1,10 +1,7 @@
-use borrow.Author.Rules.{rules}
-use native.Mathlib.Omega.{arith}
-use mathlib.Core.Path.{◌≡◌, refl, sym, ◌∙◌}
-use Prim.Native.Nat.{◌≤◌, ◌-◌, ◌<◌}
+use mathlib.Core.Path.{◌≡◌}
+use Prim.Native.Nat.{◌≤◌, ◌-◌}
 use lib.ListN.{length, drop}
 use Rattle.ascii.specs.Parts.{same}
-use Rattle.ascii.proofs.Splitting as splitting
 use Rattle.ascii.proofs.parts.same.Given as goal
 
 abbrev pub invariant-loop-i : goal.invariant-loop-i

@@ -1,5 +1,4 @@
 -- `ascii::refusal::put_refusal_at` meets its contract. Assumes nothing.
-use borrow.Author.Rules.{rules}
 use native.Mathlib.Omega.{arith}
 use mathlib.Core.Path.{refl}
 use Rattle.ascii.proofs.Putting.{up_to, a_byte}

@@ -1,6 +1,4 @@
 -- `command::lists::put_hex_as_text` meets its contract: the field is no hex, or a list that is refused, or one that is put as text. Assumes nothing.
-use borrow.Author.Rules.{rules}
-use borrow.Author.Tests.{not-true, not-false}
 use native.Mathlib.Omega.{arith}
 use Rattle.ascii.proofs.Putting.{few}
 use Rattle.nybbles.proofs.Sound.{read_formed}

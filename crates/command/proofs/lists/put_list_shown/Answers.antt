@@ -1,5 +1,4 @@
 -- `command::lists::put_list_shown` meets its contract: the list is refused, or it is shown. Assumes nothing.
-use borrow.Author.Rules.{rules}
 use native.Mathlib.Omega.{arith}
 use Rattle.ascii.specs.Refusal.{refusal_at}
 use Rattle.ascii.proofs.Putting.{few}

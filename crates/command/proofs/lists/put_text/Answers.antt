@@ -1,5 +1,4 @@
 -- `command::lists::put_text` meets its contract: 1,028 bytes are room enough for the text. Assumes nothing.
-use borrow.Author.Rules.{rules}
 use mathlib.Core.Path.{sym}
 use mathlib.Core.List.{List}
 use Prim.Native.Nat.{ℕ}

@@ -1,5 +1,4 @@
 -- `command::lists::read_hex` meets its contract: 4,096 bytes are room enough for a line of hex. Assumes nothing.
-use borrow.Author.Rules.{rules}
 use native.Mathlib.Omega.{arith}
 use mathlib.Core.Path.{sym, ap, ◌∙◌}
 use lib.ListN.{length}

@@ -1,5 +1,4 @@
 -- `compare::lines::compare_text` meets its contract: a list is refused, or both are taken and well formed. Assumes nothing.
-use borrow.Author.Rules.{rules}
 use mathlib.Core.Path.{sym, ◌∙◌}
 use Rattle.compare.proofs.TwoTexts.{refused, taken, formed}
 use Rattle.compare.proofs.lines.compare_text.Goals as goal

@@ -1,6 +1,5 @@
 -- `compare::lines::first_month` meets its contract. Assumes nothing.
 use mathlib.Core.Path.{sym, ◌∙◌}
-use borrow.Author.Rules.{rules}
 use Rattle.compare.proofs.Places.{month_here, month_none}
 use Rattle.compare.proofs.lines.first_month.Goals as goal
 

@@ -2,7 +2,6 @@
 use mathlib.Core.Path.{sym, ap, ◌∙◌}
 use Prim.Native.Nat.{◌-◌}
 use native.Mathlib.Omega.{arith}
-use borrow.Author.Rules.{rules}
 use Rattle.schedule.specs.Schedule.{month_of}
 use Rattle.schedule.specs.WordLayout.{meant}
 use Rattle.schedule.proofs.Meant.{expiry_is}

@@ -1,7 +1,6 @@
 -- `compare::lines::mark_from` meets its contract. Assumes nothing.
 use mathlib.Core.Path.{sym, ap, ◌∙◌}
 use native.Mathlib.Omega.{arith}
-use borrow.Author.Rules.{rules}
 use Rattle.schedule.specs.WordLayout.{meant}
 use Rattle.text.specs.Bytes.{sign_byte}
 use Rattle.compare.proofs.Places.{mark_there, mark_elsewhere, sign_here, not_known_lem, known_still}

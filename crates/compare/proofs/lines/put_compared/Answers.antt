@@ -1,5 +1,4 @@
 -- `compare::lines::put_compared` meets its contract: a list is refused, or both are taken and well formed. Assumes nothing.
-use borrow.Author.Rules.{rules}
 use native.Mathlib.Omega.{arith}
 use mathlib.Core.Path.{sym, ap, ◌∙◌}
 use Rattle.ascii.specs.Decimal.{decimal}

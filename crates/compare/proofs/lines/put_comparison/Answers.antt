@@ -1,5 +1,4 @@
 -- `compare::lines::put_comparison` meets its contract. Assumes nothing.
-use borrow.Author.Rules.{rules}
 use native.Mathlib.Omega.{arith}
 use mathlib.Core.Path.{refl}
 use Rattle.ascii.proofs.Putting.{up_to}

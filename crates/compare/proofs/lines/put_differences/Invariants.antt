@@ -1,11 +1,7 @@
-use borrow.Author.Rules.{rules}
-use native.Mathlib.Omega.{arith}
 use Prim.Native.Nat.{◌-◌}
-use Rattle.ascii.proofs.Putting.{same_long}
 use Rattle.schedule.specs.WordLayout.{meant}
 use Rattle.compare.specs.Private.{past_months}
-use Rattle.compare.proofs.Going.{Going, start_going, ended, rises, go_on}
-use Rattle.compare.proofs.Found.{least, line_by_lem}
+use Rattle.compare.proofs.Going.{Going}
 use Rattle.compare.proofs.lines.put_differences.Given as goal
 
 abbrev pub invariant-loop-month : goal.invariant-loop-month

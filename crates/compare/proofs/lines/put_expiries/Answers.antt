@@ -1,5 +1,4 @@
 -- `compare::lines::put_expiries` meets its contract: an expiry has at most six digits. Assumes nothing.
-use borrow.Author.Rules.{rules}
 use borrow.Author.Tests.{eq-eqb, ne_eqb}
 use native.Mathlib.Omega.{arith}
 use mathlib.Core.Path.{refl, sym, ◌∙◌}

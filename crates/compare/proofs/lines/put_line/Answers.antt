@@ -1,5 +1,4 @@
 -- `compare::lines::put_line` meets its contract: the month and both marks, with a space between them; a month has at most four digits. Assumes nothing.
-use borrow.Author.Rules.{rules}
 use borrow.Author.Tests.{eq-eqb, ne_eqb}
 use native.Mathlib.Omega.{arith}
 use mathlib.Core.Path.{refl}

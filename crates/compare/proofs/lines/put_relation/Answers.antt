@@ -1,5 +1,4 @@
 -- `compare::lines::put_relation` meets its contract. Assumes nothing.
-use borrow.Author.Rules.{rules}
 use native.Mathlib.Omega.{arith}
 use Rattle.ascii.proofs.Putting.{text_put}
 use Rattle.compare.specs.Compare.{relation_by}

@@ -1,5 +1,4 @@
 -- `compare::lines::write_comparison` meets its contract: the local output has room for every comparison. Assumes nothing.
-use borrow.Author.Rules.{rules}
 use Rattle.ascii.proofs.Putting.{both, one_put}
 use Rattle.compare.proofs.Bytes.{compared_bytes}
 use Rattle.compare.proofs.Room.{at_most}

@@ -1,5 +1,4 @@
 -- `compare::longer::choose` meets its contract. Assumes nothing.
-use borrow.Author.Rules.{rules}
 use mathlib.Core.Path.{sym, ◌∙◌}
 use Rattle.schedule.specs.WordLayout.{meant}
 use Rattle.compare.specs.Longer.{chosen_of}

@@ -1,5 +1,4 @@
 -- `compare::longer::choose_same` meets its contract. Assumes nothing.
-use borrow.Author.Rules.{rules}
 use mathlib.Core.Path.{sym, ap, ◌∙◌}
 use Rattle.compare.specs.declared.longer.Chosen.TheVariants.{Refused}
 use Rattle.compare.specs.Longer.{chosen_of}

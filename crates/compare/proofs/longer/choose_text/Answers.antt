@@ -1,5 +1,4 @@
 -- `compare::longer::choose_text` meets its contract. Assumes nothing.
-use borrow.Author.Rules.{rules}
 use mathlib.Core.Path.{sym, ap, ◌∙◌}
 use Rattle.ascii.proofs.Splitting.{same_is}
 use Rattle.compare.specs.declared.longer.Chosen.TheVariants.{Refused}

@@ -1,5 +1,4 @@
 -- `compare::longer::longer` meets its contract: one answer for each choice. Assumes nothing.
-use borrow.Author.Rules.{rules}
 use mathlib.Core.Path.{refl, sym, ◌∙◌}
 use Rattle.compare.proofs.longer.longer.Goals as goal
 

@@ -1,5 +1,4 @@
 -- `compare::texts::read_both` meets its contract. Assumes nothing.
-use borrow.Author.Rules.{rules}
 use Rattle.compare.proofs.TwoTexts.{first_stops, second_tells}
 use Rattle.compare.proofs.texts.read_both.Goals as goal
 

@@ -1,6 +1,5 @@
 -- `leapsec::lines::hold` is safe and ends: it stores below the bytes that are held, of which there are no more than come from `from` on.
 -- Assumes nothing.
-use borrow.Author.Rules.{rules}
 use Prim.Native.Nat.{◌+◌, ◌-◌, ◌≤◌}
 use mathlib.Core.Path.{◌≡◌}
 use lib.ListN.{length}

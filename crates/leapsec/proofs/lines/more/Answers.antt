@@ -1,5 +1,4 @@
 -- `leapsec::lines::more` is safe: what is held, and what came behind it, lies within the buffer. Assumes nothing.
-use borrow.Author.Rules.{rules}
 use native.Mathlib.Omega.{arith}
 use mathlib.Core.Path.{sym}
 use lib.Seq.{length-take-le}

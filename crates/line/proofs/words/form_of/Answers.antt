@@ -1,5 +1,4 @@
 -- `line::words::form_of` meets its contract. Assumes nothing.
-use borrow.Author.Rules.{rules}
 use Rattle.line.specs.Words.{form_of}
 use Rattle.line.proofs.words.form_of.Goals as goal
 

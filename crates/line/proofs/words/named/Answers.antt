@@ -1,5 +1,4 @@
 -- `line::words::named` meets its contract. Assumes nothing.
-use borrow.Author.Rules.{rules}
 use Rattle.line.proofs.words.named.Goals as goal
 
 pub returns-then-same : goal.returns-then-same

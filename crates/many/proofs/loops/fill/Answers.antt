@@ -1,11 +1,8 @@
 -- `many::loops::fill` meets its contract. Assumes nothing.
-use mathlib.Core.List.{zip_with}
-use Prim.Native.Nat.{◌-◌, ◌≤◌, ◌<◌}
+use Prim.Native.Nat.{◌<◌}
 use native.Mathlib.Omega.{arith}
-use borrow.Author.Rules.{rules}
-use Rattle.refusals.specs.Answer.{number, or_zero}
 use Rattle.many.specs.Private.{question}
-use Rattle.many.proofs.Answering.{Filled, filled_none, filled_one, filled_all, each_two}
+use Rattle.many.proofs.Answering.{filled_none, filled_one, filled_all, each_two}
 use Rattle.many.proofs.loops.fill.Goals as goal
 
 pub loop-i-init : goal.loop-i-init

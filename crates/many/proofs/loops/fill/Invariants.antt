@@ -1,10 +1,8 @@
 use mathlib.Core.List.{zip_with}
-use Prim.Native.Nat.{◌-◌, ◌≤◌, ◌<◌}
-use native.Mathlib.Omega.{arith}
-use borrow.Author.Rules.{rules}
+use Prim.Native.Nat.{◌-◌, ◌≤◌}
 use Rattle.refusals.specs.Answer.{number, or_zero}
 use Rattle.many.specs.Private.{question}
-use Rattle.many.proofs.Answering.{Filled, filled_none, filled_one, filled_all, each_two}
+use Rattle.many.proofs.Answering.{Filled}
 use Rattle.many.proofs.loops.fill.Given as goal
 
 abbrev pub invariant-loop-i : goal.invariant-loop-i

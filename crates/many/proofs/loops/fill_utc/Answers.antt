@@ -1,12 +1,8 @@
 -- `many::loops::fill_utc` meets its contract. Assumes nothing.
-use mathlib.Core.List.{map}
-use Prim.Native.Nat.{◌-◌, ◌≤◌, ◌<◌}
+use Prim.Native.Nat.{◌<◌}
 use native.Mathlib.Omega.{arith}
-use borrow.Author.Rules.{rules}
-use Rattle.refusals.specs.Answer.{number}
 use Rattle.clock.specs.Question.{tai_to_utc}
-use Rattle.many.specs.Many.{day_or_zero, micros_or_zero}
-use Rattle.many.proofs.Answering.{Filled, filled_none, filled_one, filled_all, each_one}
+use Rattle.many.proofs.Answering.{filled_none, filled_one, filled_all, each_one}
 use Rattle.many.proofs.loops.fill_utc.Goals as goal
 
 pub loop-i-init : goal.loop-i-init

@@ -1,11 +1,9 @@
 use mathlib.Core.List.{map}
-use Prim.Native.Nat.{◌-◌, ◌≤◌, ◌<◌}
-use native.Mathlib.Omega.{arith}
-use borrow.Author.Rules.{rules}
+use Prim.Native.Nat.{◌-◌, ◌≤◌}
 use Rattle.refusals.specs.Answer.{number}
 use Rattle.clock.specs.Question.{tai_to_utc}
 use Rattle.many.specs.Many.{day_or_zero, micros_or_zero}
-use Rattle.many.proofs.Answering.{Filled, filled_none, filled_one, filled_all, each_one}
+use Rattle.many.proofs.Answering.{Filled}
 use Rattle.many.proofs.loops.fill_utc.Given as goal
 
 abbrev pub invariant-loop-i : goal.invariant-loop-i

@@ -1,10 +1,6 @@
 -- `many::loops::refuse_dtai` meets its contract. Assumes nothing.
-use Prim.Native.Nat.{◌-◌}
-use lib.IntN.{pos}
 use native.Mathlib.Omega.{arith}
-use borrow.Author.Rules.{rules}
-use Rattle.refusals.specs.Refusals.{not_well_formed}
-use Rattle.many.proofs.Answering.{Repeating, repeated_none, repeated_one, repeated_all}
+use Rattle.many.proofs.Answering.{repeated_none, repeated_one, repeated_all}
 use Rattle.many.proofs.loops.refuse_dtai.Goals as goal
 
 pub loop-i-init : goal.loop-i-init

@@ -1,9 +1,7 @@
 use Prim.Native.Nat.{◌-◌}
 use lib.IntN.{pos}
-use native.Mathlib.Omega.{arith}
-use borrow.Author.Rules.{rules}
 use Rattle.refusals.specs.Refusals.{not_well_formed}
-use Rattle.many.proofs.Answering.{Repeating, repeated_none, repeated_one, repeated_all}
+use Rattle.many.proofs.Answering.{Repeating}
 use Rattle.many.proofs.loops.refuse_dtai.Given as goal
 
 abbrev pub invariant-loop-i : goal.invariant-loop-i

@@ -1,8 +1,6 @@
 use Prim.Native.Nat.{◌-◌}
-use native.Mathlib.Omega.{arith}
-use borrow.Author.Rules.{rules}
 use Rattle.refusals.specs.Refusals.{not_well_formed}
-use Rattle.many.proofs.Answering.{Repeating, repeated_none, repeated_one, repeated_all}
+use Rattle.many.proofs.Answering.{Repeating}
 use Rattle.many.proofs.loops.refuse_utc.Given as goal
 
 abbrev pub invariant-loop-i : goal.invariant-loop-i

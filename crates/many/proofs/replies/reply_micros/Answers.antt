@@ -1,6 +1,5 @@
 -- `many::replies::reply_micros` meets its contract. Assumes nothing.
 use mathlib.Core.Path.{ap, ◌∙◌}
-use borrow.Author.Rules.{rules}
 use Rattle.clock.specs.Answers.{micros_answer, micros_number, micros_value}
 use Rattle.many.proofs.Stretched.{list_in_lem}
 use Rattle.clock.proofs.Numbers.{micros_told, hands_value}

@@ -1,6 +1,5 @@
 -- `many::replies::reply_tai` meets its contract. Assumes nothing.
 use mathlib.Core.Path.{ap, ◌∙◌}
-use borrow.Author.Rules.{rules}
 use Rattle.clock.specs.Answers.{tai_answer, tai_number, tai_value}
 use Rattle.clock.proofs.Numbers.{tai_told, hands_value}
 use Rattle.questions.proofs.Said.{tai_said_lem}

@@ -1,5 +1,4 @@
 -- `many::replies::reply_to` meets its contract. Assumes nothing.
-use borrow.Author.Rules.{rules}
 use Rattle.many.proofs.replies.reply_to.Goals as goal
 
 pub returns-in-Tai : goal.returns-in-Tai

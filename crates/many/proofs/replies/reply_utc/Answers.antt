@@ -1,6 +1,5 @@
 -- `many::replies::reply_utc` meets its contract. Assumes nothing.
 use mathlib.Core.Path.{ap, ◌∙◌}
-use borrow.Author.Rules.{rules}
 use Rattle.clock.specs.Answers.{utc_answer}
 use Rattle.clock.proofs.Numbers.{hands_utc}
 use Rattle.questions.specs.Said.{near_day}

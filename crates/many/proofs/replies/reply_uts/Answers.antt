@@ -1,6 +1,5 @@
 -- `many::replies::reply_uts` meets its contract. Assumes nothing.
 use mathlib.Core.Path.{ap, ◌∙◌}
-use borrow.Author.Rules.{rules}
 use Rattle.clock.specs.Answers.{uts_answer, uts_number, uts_value}
 use Rattle.many.proofs.Stretched.{list_in_lem}
 use Rattle.clock.proofs.Numbers.{uts_told, hands_value}

@@ -1,6 +1,5 @@
 -- `many::stretches::ending_in` meets its contract. Assumes nothing.
 use native.Mathlib.Omega.{arith}
-use borrow.Author.Rules.{rules}
 use Rattle.many.proofs.Stretched.{usual_in, inserted_in, deleted_in}
 use Rattle.many.proofs.stretches.ending_in.Goals as goal
 

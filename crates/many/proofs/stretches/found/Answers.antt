@@ -2,7 +2,6 @@
 use mathlib.Core.Path.{refl}
 use Prim.Native.Nat.{◌+◌, ◌/◌, ◌<◌}
 use native.Mathlib.Omega.{arith}
-use borrow.Author.Rules.{rules}
 use Rattle.calendar.specs.Calendar.{end_day}
 use Rattle.many.proofs.Stretched.{day_in_stretch, day_for_near}
 use Rattle.many.proofs.stretches.found.Goals as goal

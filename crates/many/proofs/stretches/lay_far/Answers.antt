@@ -1,7 +1,6 @@
 -- `many::stretches::lay_far` meets its contract. Assumes nothing.
-use Prim.Native.Nat.{◌-◌}
 use native.Mathlib.Omega.{arith}
-use Rattle.many.proofs.Preparing.{Emptying, emptying_none, emptying_one, emptying_all}
+use Rattle.many.proofs.Preparing.{emptying_none, emptying_one, emptying_all}
 use Rattle.many.proofs.stretches.lay_far.Goals as goal
 
 pub loop-i-init : goal.loop-i-init

@@ -1,6 +1,5 @@
 use Prim.Native.Nat.{◌-◌}
-use native.Mathlib.Omega.{arith}
-use Rattle.many.proofs.Preparing.{Emptying, emptying_none, emptying_one, emptying_all}
+use Rattle.many.proofs.Preparing.{Emptying}
 use Rattle.many.proofs.stretches.lay_far.Given as goal
 
 abbrev pub invariant-loop-i : goal.invariant-loop-i

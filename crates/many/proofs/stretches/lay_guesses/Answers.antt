@@ -1,8 +1,6 @@
 -- `many::stretches::lay_guesses` meets its contract. Assumes nothing.
-use Prim.Native.Nat.{◌+◌, ◌-◌, ◌<◌}
 use native.Mathlib.Omega.{arith}
-use borrow.Author.Rules.{rules}
-use Rattle.many.proofs.Preparing.{Guessing, guessing_none, guessing_one}
+use Rattle.many.proofs.Preparing.{guessing_none, guessing_one}
 use Rattle.many.proofs.stretches.lay_guesses.Goals as goal
 
 pub loop-i-init : goal.loop-i-init

@@ -1,7 +1,5 @@
 use Prim.Native.Nat.{◌+◌, ◌-◌, ◌<◌}
-use native.Mathlib.Omega.{arith}
-use borrow.Author.Rules.{rules}
-use Rattle.many.proofs.Preparing.{Guessing, guessing_none, guessing_one}
+use Rattle.many.proofs.Preparing.{Guessing}
 use Rattle.many.proofs.stretches.lay_guesses.Given as goal
 
 abbrev pub invariant-loop-i : goal.invariant-loop-i

@@ -1,14 +1,13 @@
 -- `many::stretches::lay_starts` meets its contract. Assumes nothing.
-use mathlib.Core.Path.{◌≡◌, ap, ◌∙◌}
-use Prim.Native.Nat.{◌-◌, ◌≤◌, ◌<◌}
+use mathlib.Core.Path.{ap, ◌∙◌}
+use Prim.Native.Nat.{◌<◌}
 use native.Mathlib.Omega.{arith}
-use borrow.Author.Rules.{rules}
 use Rattle.calendar.specs.Calendar.{month_start}
 use Rattle.calendar.proofs.Laws.{start_min, start_to}
 use Rattle.schedule.specs.WordLayout.{count_word, meant}
 use Rattle.schedule.proofs.Meant.{count_is, count_room, month_word_lem}
 use Rattle.questions.proofs.LaidOut.{month_meant}
-use Rattle.many.proofs.Preparing.{Starting, starting_none, starting_one, starting_all}
+use Rattle.many.proofs.Preparing.{starting_none, starting_one, starting_all}
 use Rattle.many.proofs.stretches.lay_starts.Goals as goal
 
 pub loop-i-init : goal.loop-i-init

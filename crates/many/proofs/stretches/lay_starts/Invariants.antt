@@ -1,13 +1,7 @@
-use mathlib.Core.Path.{◌≡◌, ap, ◌∙◌}
-use Prim.Native.Nat.{◌-◌, ◌≤◌, ◌<◌}
-use native.Mathlib.Omega.{arith}
-use borrow.Author.Rules.{rules}
-use Rattle.calendar.specs.Calendar.{month_start}
-use Rattle.calendar.proofs.Laws.{start_min, start_to}
+use mathlib.Core.Path.{◌≡◌}
+use Prim.Native.Nat.{◌-◌, ◌≤◌}
 use Rattle.schedule.specs.WordLayout.{count_word, meant}
-use Rattle.schedule.proofs.Meant.{count_is, count_room, month_word_lem}
-use Rattle.questions.proofs.LaidOut.{month_meant}
-use Rattle.many.proofs.Preparing.{Starting, starting_none, starting_one, starting_all}
+use Rattle.many.proofs.Preparing.{Starting}
 use Rattle.many.proofs.stretches.lay_starts.Given as goal
 
 abbrev pub invariant-loop-i : goal.invariant-loop-i

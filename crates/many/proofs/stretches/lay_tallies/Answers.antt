@@ -1,11 +1,9 @@
 -- `many::stretches::lay_tallies` meets its contract. Assumes nothing.
-use mathlib.Core.Path.{◌≡◌}
-use Prim.Native.Nat.{◌-◌, ◌≤◌, ◌<◌}
+use Prim.Native.Nat.{◌<◌}
 use native.Mathlib.Omega.{arith}
-use borrow.Author.Rules.{rules}
 use Rattle.schedule.specs.WordLayout.{count_word, meant}
 use Rattle.schedule.proofs.Meant.{count_is, count_room, sign_word, sign_fits}
-use Rattle.many.proofs.Preparing.{Tallying, tallying_none, tallying_one, tallying_all}
+use Rattle.many.proofs.Preparing.{tallying_none, tallying_one, tallying_all}
 use Rattle.many.proofs.stretches.lay_tallies.Goals as goal
 
 pub loop-i-init : goal.loop-i-init

@@ -1,10 +1,7 @@
 use mathlib.Core.Path.{◌≡◌}
-use Prim.Native.Nat.{◌-◌, ◌≤◌, ◌<◌}
-use native.Mathlib.Omega.{arith}
-use borrow.Author.Rules.{rules}
+use Prim.Native.Nat.{◌-◌, ◌≤◌}
 use Rattle.schedule.specs.WordLayout.{count_word, meant}
-use Rattle.schedule.proofs.Meant.{count_is, count_room, sign_word, sign_fits}
-use Rattle.many.proofs.Preparing.{Tallying, tallying_none, tallying_one, tallying_all}
+use Rattle.many.proofs.Preparing.{Tallying}
 use Rattle.many.proofs.stretches.lay_tallies.Given as goal
 
 abbrev pub invariant-loop-i : goal.invariant-loop-i

@@ -1,6 +1,5 @@
 -- `many::stretches::prepare` meets its contract. Assumes nothing.
 use mathlib.Core.Path.{◌∙◌}
-use borrow.Author.Rules.{rules}
 use Rattle.many.proofs.Preparing.{dated_size, starts_size, tallies_clear, tallies_size, tallies_fenced, last_inside, guesses_clear, list_prepared}
 use Rattle.many.proofs.stretches.prepare.Goals as goal
 

@@ -1,6 +1,5 @@
 -- `many::stretches::step` meets its contract. Assumes nothing.
 use native.Mathlib.Omega.{arith}
-use borrow.Author.Rules.{rules}
 use Rattle.many.proofs.Stretched.{walk_room}
 use Rattle.many.proofs.stretches.step.Goals as goal
 

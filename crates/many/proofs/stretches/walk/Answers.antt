@@ -1,8 +1,5 @@
 -- `many::stretches::walk` meets its contract. Assumes nothing.
-use Prim.Native.Nat.{◌-◌, ◌≤◌}
 use native.Mathlib.Omega.{arith}
-use borrow.Author.Rules.{rules}
-use lib.ListN.{get_or}
 use Rattle.many.proofs.Stretched.{walk_room}
 use Rattle.many.proofs.stretches.walk.Goals as goal
 

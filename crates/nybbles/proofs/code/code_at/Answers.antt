@@ -1,6 +1,5 @@
 -- `code::code_at` meets its contract. Assumes nothing.
 use native.Mathlib.Omega.{arith}
-use borrow.Author.Rules.{rules}
 use Rattle.nybbles.proofs.Codes as codes
 use Rattle.nybbles.proofs.code.code_at.Goals as goal
 

@@ -1,6 +1,5 @@
 -- `code::single_code` meets its contract. Assumes nothing.
 use mathlib.Core.Path.{refl}
-use borrow.Author.Rules.{rules}
 use Rattle.nybbles.specs.Codes.{single}
 use Rattle.nybbles.proofs.code.single_code.Goals as goal
 

@@ -1,5 +1,4 @@
 -- `code::wide_code` meets its contract. Assumes nothing.
-use borrow.Author.Rules.{rules}
 use borrow.Author.Tests.{eq-eqb, ne_eqb}
 use Rattle.nybbles.specs.Codes.{wide}
 use Rattle.nybbles.proofs.code.wide_code.Goals as goal

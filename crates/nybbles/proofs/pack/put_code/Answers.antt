@@ -3,7 +3,6 @@ use mathlib.Core.Path.{ap, ◌∙◌}
 use native.Mathlib.Omega.{arith}
 use Prim.Native.Nat.{◌/◌}
 use lib.ListN.{length, length-set}
-use borrow.Author.Rules.{rules}
 use Rattle.nybbles.specs.Codes.{nybbles}
 use Rattle.nybbles.proofs.Packed as packed
 use Rattle.nybbles.proofs.pack.put_code.Goals as goal

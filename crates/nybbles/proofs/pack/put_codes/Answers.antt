@@ -1,6 +1,6 @@
 -- `pack::put_codes` meets its contract. The loop's invariant: the nybbles left, put from here on, make the whole. Assumes nothing.
 use native.Mathlib.Omega.{arith}
-use Prim.Native.Nat.{◌-◌, ◌≤◌}
+use Prim.Native.Nat.{◌≤◌}
 use lib.ListN.{length}
 use Rattle.nybbles.proofs.Packed as packed
 use Rattle.nybbles.proofs.pack.put_codes.Goals as goal

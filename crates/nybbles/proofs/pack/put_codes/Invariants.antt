@@ -1,6 +1,4 @@
-use native.Mathlib.Omega.{arith}
-use Prim.Native.Nat.{◌-◌, ◌≤◌}
-use lib.ListN.{length}
+use Prim.Native.Nat.{◌-◌}
 use Rattle.nybbles.proofs.Packed as packed
 use Rattle.nybbles.proofs.pack.put_codes.Given as goal
 

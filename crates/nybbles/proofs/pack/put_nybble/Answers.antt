@@ -1,7 +1,6 @@
 -- `pack::put_nybble` meets its contract. Assumes nothing.
 use native.Mathlib.Omega.{arith}
 use Prim.Native.Nat.{◌/◌}
-use borrow.Author.Rules.{rules}
 use Rattle.nybbles.proofs.Codes.{count}
 use Rattle.nybbles.proofs.Packed as packed
 use Rattle.nybbles.proofs.pack.put_nybble.Goals as goal

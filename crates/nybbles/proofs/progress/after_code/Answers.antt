@@ -1,6 +1,5 @@
 -- `progress::after_code` meets its contract. Assumes nothing.
 use native.Mathlib.Omega.{arith}
-use borrow.Author.Rules.{rules}
 use Rattle.nybbles.specs.Read.{after}
 use Rattle.nybbles.proofs.Reading as reading
 use Rattle.nybbles.proofs.progress.after_code.Goals as goal

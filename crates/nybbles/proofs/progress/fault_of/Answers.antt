@@ -3,7 +3,6 @@ use mathlib.Core.Path.{◌≡◌, sym, ◌∙◌}
 use mathlib.Core.Bool.{true, false}
 use native.Mathlib.Omega.{arith}
 use lib.ListN.{length}
-use borrow.Author.Rules.{rules}
 use Rattle.nybbles.specs.Read.{has_room}
 use Rattle.nybbles.specs.Private.{state_of}
 use Rattle.nybbles.proofs.Reading as reading

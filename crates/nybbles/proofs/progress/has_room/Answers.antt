@@ -1,5 +1,4 @@
 -- `progress::has_room` meets its contract. Assumes nothing.
-use borrow.Author.Rules.{rules}
 use Rattle.nybbles.proofs.progress.has_room.Goals as goal
 
 pub returns-in-Leaps : goal.returns-in-Leaps

@@ -1,8 +1,7 @@
 -- `spell::nybble_count` meets its contract. The loop's invariant: the count so far and the nybbles left make the whole. Assumes nothing.
 use native.Mathlib.Omega.{arith}
-use Prim.Native.Nat.{◌-◌, ◌≤◌}
+use Prim.Native.Nat.{◌≤◌}
 use lib.ListN.{length}
-use borrow.Author.Rules.{rules}
 use Rattle.nybbles.proofs.Evened as evened
 use Rattle.nybbles.proofs.spell.nybble_count.Goals as goal
 

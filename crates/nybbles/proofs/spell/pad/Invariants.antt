@@ -1,7 +1,3 @@
-use mathlib.Core.Path.{refl}
-use native.Mathlib.Omega.{arith}
-use Prim.Native.Nat.{◌≤◌}
-use lib.ListN.{length}
 use Rattle.nybbles.proofs.Evened as evened
 use Rattle.nybbles.proofs.spell.pad.Given as goal
 

@@ -1,6 +1,5 @@
 -- `spell::pair` meets its contract. Assumes nothing.
 use native.Mathlib.Omega.{arith}
-use borrow.Author.Rules.{rules}
 use Rattle.nybbles.proofs.Held.{held_pair}
 use Rattle.nybbles.proofs.spell.pair.Goals as goal
 

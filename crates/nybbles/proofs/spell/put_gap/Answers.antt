@@ -2,7 +2,6 @@
 use mathlib.Core.Path.{ap}
 use native.Mathlib.Omega.{arith}
 use lib.ListN.{length}
-use borrow.Author.Rules.{rules}
 use Rattle.nybbles.proofs.Stored as stored
 use Rattle.nybbles.proofs.spell.put_gap.Goals as goal
 

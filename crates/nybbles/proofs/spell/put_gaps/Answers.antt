@@ -1,8 +1,6 @@
 -- `spell::put_gaps` meets its contract. The loop's invariant: the gaps left, stored from here on, make the whole. Assumes nothing.
 use native.Mathlib.Nat.{le_of_lt}
 use native.Mathlib.Omega.{arith}
-use Prim.Native.Nat.{◌-◌}
-use borrow.Author.Rules.{rules}
 use Rattle.schedule.proofs.Gaps.{fits_lt}
 use Rattle.nybbles.proofs.Filled as filled
 use Rattle.nybbles.proofs.spell.put_gaps.Goals as goal

@@ -1,8 +1,4 @@
-use native.Mathlib.Nat.{le_of_lt}
-use native.Mathlib.Omega.{arith}
 use Prim.Native.Nat.{◌-◌}
-use borrow.Author.Rules.{rules}
-use Rattle.schedule.proofs.Gaps.{fits_lt}
 use Rattle.nybbles.proofs.Filled as filled
 use Rattle.nybbles.proofs.spell.put_gaps.Given as goal
 

@@ -1,7 +1,6 @@
 -- `spell::put_sixes` meets its contract. The loop's invariant: the sixes left, stored from here on, make the whole. Assumes nothing.
 use mathlib.Core.Path.{refl}
 use native.Mathlib.Omega.{arith}
-use borrow.Author.Rules.{rules}
 use Rattle.nybbles.proofs.Stored as stored
 use Rattle.nybbles.proofs.spell.put_sixes.Goals as goal
 

@@ -1,6 +1,3 @@
-use mathlib.Core.Path.{refl}
-use native.Mathlib.Omega.{arith}
-use borrow.Author.Rules.{rules}
 use Rattle.nybbles.proofs.Stored as stored
 use Rattle.nybbles.proofs.spell.put_sixes.Given as goal
 

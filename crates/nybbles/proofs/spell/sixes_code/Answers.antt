@@ -1,7 +1,6 @@
 -- `spell::sixes_code` meets its contract. Assumes nothing.
 use mathlib.Core.Path.{◌∙◌}
 use native.Mathlib.Omega.{arith}
-use borrow.Author.Rules.{rules}
 use borrow.Author.Tests.{eq-eqb, ne_eqb, le-leb, lt-leb}
 use Rattle.nybbles.proofs.Held.{held_one}
 use Rattle.nybbles.proofs.spell.sixes_code.Goals as goal
@@ -14,6 +13,6 @@ pub returns : goal.returns
 returns c =
     c.pair.ensures
     ∙ elim c.if-np-eq-NP_POSITIVE.branch [
-        then-np-eq-NP_POSITIVE+else-k-le8 w ↦ simp (eq-eqb _ _ w.if-np-eq-NP_POSITIVE.true, lt-leb _ _ w.if-k-le8.false)
+      | then-np-eq-NP_POSITIVE+else-k-le8 w ↦ simp (eq-eqb _ _ w.if-np-eq-NP_POSITIVE.true, lt-leb _ _ w.if-k-le8.false)
       | else-np-eq-NP_POSITIVE w ↦ simp (ne_eqb _ _ w.if-np-eq-NP_POSITIVE.false)
     ]

@@ -1,5 +1,4 @@
 -- `spell::spell` meets its contract. Assumes nothing.
-use borrow.Author.Rules.{rules}
 use Rattle.nybbles.proofs.Evened as evened
 use Rattle.nybbles.proofs.spell.spell.Goals as goal
 

@@ -1,5 +1,5 @@
 -- `questions::by_day::day_before` meets its contract. Assumes nothing.
-use Rattle.std.proofs.Common.{arith, rules}
+use Rattle.std.proofs.Common.{arith}
 use Rattle.questions.proofs.by_day.day_before.Goals as goal
 
 pub returns-then-expiry-gt-END_DAY : goal.returns-then-expiry-gt-END_DAY

@@ -1,5 +1,5 @@
 -- `questions::by_day::dtai_on` meets its contract. Assumes nothing.
-use Rattle.std.proofs.Common.{sym, ap, ◌∙◌, rules}
+use Rattle.std.proofs.Common.{sym, ap, ◌∙◌}
 use Rattle.clock.specs.declared.DtaiAnswer.TheVariants.{Given}
 use Rattle.clock.specs.Answers.{dtai_answer}
 use Rattle.questions.specs.Said.{dtai_said}

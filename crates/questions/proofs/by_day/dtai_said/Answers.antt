@@ -1,5 +1,5 @@
 -- `questions::by_day::dtai_said` meets its contract. Assumes nothing.
-use Rattle.std.proofs.Common.{◌+◌, ◌∙◌, ap₂, arith, rules}
+use Rattle.std.proofs.Common.{◌+◌, ◌∙◌, ap₂, arith}
 use lib.IntN.{sub_ℕ}
 use Rattle.clock.specs.Days.{first_dtai}
 use Rattle.questions.proofs.Signed.{minus_kept, difference_fits, difference_kept}

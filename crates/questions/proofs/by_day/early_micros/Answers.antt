@@ -1,5 +1,5 @@
 -- `questions::by_day::early_micros` meets its contract. Assumes nothing.
-use Rattle.std.proofs.Common.{◌/◌, sym, ap, rules}
+use Rattle.std.proofs.Common.{◌/◌, sym, ap}
 use Rattle.clock.specs.Answers.{micros_answer}
 use Rattle.questions.proofs.Told.{date_then, then_passed, then_refused}
 use Rattle.questions.proofs.by_day.early_micros.Goals as goal

@@ -1,5 +1,5 @@
 -- `questions::by_day::early_uts` meets its contract. Assumes nothing.
-use Rattle.std.proofs.Common.{◌*◌, min, sym, ap, ◌∙◌, arith, rules}
+use Rattle.std.proofs.Common.{◌*◌, min, sym, ap, ◌∙◌, arith}
 use Rattle.clock.specs.declared.UtsAnswer.TheVariants.{Given}
 use Rattle.clock.specs.Known.{uts_cutoff}
 use Rattle.clock.specs.Answers.{uts_answer}

@@ -1,5 +1,5 @@
 -- `questions::by_day::late_from_start` meets its contract. Assumes nothing.
-use Rattle.std.proofs.Common.{◌+◌, ◌-◌, ap, ◌∙◌, arith, rules, le-ltb, lt-ltb}
+use Rattle.std.proofs.Common.{◌+◌, ◌-◌, ap, ◌∙◌, arith, le-ltb, lt-ltb}
 use Rattle.clock.specs.Days.{short_day, day_length}
 use Rattle.clock.specs.Answers.{utc_answer}
 use Rattle.questions.specs.Said.{on_day}

@@ -1,5 +1,5 @@
 -- `questions::by_day::micros_on` meets its contract. Assumes nothing.
-use Rattle.std.proofs.Common.{sym, ap, ◌∙◌, rules}
+use Rattle.std.proofs.Common.{sym, ap, ◌∙◌}
 use Rattle.clock.specs.declared.MicrosAnswer.TheVariants.{Given}
 use Rattle.clock.specs.Smoothed.{nanos_per_day, utc_of}
 use Rattle.clock.specs.Known.{nanos_cutoff}

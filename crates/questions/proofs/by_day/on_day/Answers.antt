@@ -1,5 +1,5 @@
 -- `questions::by_day::on_day` meets its contract. Assumes nothing.
-use Rattle.std.proofs.Common.{sym, ap, ◌∙◌, rules}
+use Rattle.std.proofs.Common.{sym, ap, ◌∙◌}
 use Rattle.refusals.specs.Refusals.{not_known}
 use Rattle.clock.specs.Answers.{utc_answer}
 use Rattle.refusals.proofs.Checks.{pass, stop}

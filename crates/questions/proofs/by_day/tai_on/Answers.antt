@@ -1,5 +1,5 @@
 -- `questions::by_day::tai_on` meets its contract. Assumes nothing.
-use Rattle.std.proofs.Common.{sym, ap, ◌∙◌, arith, rules, le-ltb, lt-ltb}
+use Rattle.std.proofs.Common.{sym, ap, ◌∙◌, arith, le-ltb, lt-ltb}
 use Rattle.refusals.specs.Refusals.{not_well_formed}
 use Rattle.refusals.proofs.Checks.{pass, stop}
 use Rattle.calendar.specs.Calendar.{end_day}

@@ -1,5 +1,5 @@
 -- `questions::by_day::utc_on` meets its contract. Assumes nothing.
-use Rattle.std.proofs.Common.{◌≡◌, sym, ap, ◌∙◌, rules, le-ltb, lt-ltb, le-leb}
+use Rattle.std.proofs.Common.{◌≡◌, sym, ap, ◌∙◌, le-ltb, lt-ltb, le-leb}
 use borrow.Author.Tests.{lt-leb, not-true, not-false}
 use Rattle.refusals.specs.Refusals.{before1972, not_known, not_well_formed}
 use Rattle.refusals.specs.Answer.{given}

@@ -1,5 +1,5 @@
 -- `questions::by_day::uts_on` meets its contract. Assumes nothing.
-use Rattle.std.proofs.Common.{sym, ap, ◌∙◌, rules}
+use Rattle.std.proofs.Common.{sym, ap, ◌∙◌}
 use Rattle.clock.specs.declared.UtsAnswer.TheVariants.{Given}
 use Rattle.clock.specs.Smoothed.{uts}
 use Rattle.clock.specs.Known.{uts_cutoff}

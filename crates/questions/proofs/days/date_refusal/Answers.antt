@@ -1,6 +1,6 @@
 -- `questions::days::date_refusal` meets its contract. Assumes nothing.
 use Rattle.std.proofs.Common.{◌∙◌, arith, le-leb}
-use borrow.Author.Tests.{lt-leb, not-true, not-false}
+use borrow.Author.Tests.{lt-leb}
 use Rattle.refusals.specs.Refusals.{before1972, not_known, not_well_formed}
 use Rattle.calendar.specs.Calendar.{first_day}
 use Rattle.refusals.proofs.Checks.{pass, stop}

@@ -1,5 +1,4 @@
 -- `questions::days::day_in` meets its contract. Assumes nothing.
-use Rattle.std.proofs.Common.{rules}
 use Rattle.questions.proofs.Places.{looked}
 use Rattle.questions.proofs.days.day_in.Goals as goal
 

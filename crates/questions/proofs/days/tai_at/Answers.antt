@@ -1,5 +1,5 @@
 -- `questions::days::tai_at` meets its contract. Assumes nothing.
-use Rattle.std.proofs.Common.{◌+◌, ◌*◌, ◌∙◌, ap₂, arith, rules}
+use Rattle.std.proofs.Common.{◌+◌, ◌*◌, ◌∙◌, ap₂, arith}
 use Rattle.calendar.specs.Calendar.{first_day}
 use Rattle.clock.specs.Days.{micros_per_second, micros_per_day, first_dtai}
 use Rattle.questions.specs.Said.{held}

@@ -1,6 +1,6 @@
 -- `questions::instants::instant_refusal` meets its contract. Assumes nothing.
-use Rattle.std.proofs.Common.{◌∙◌, arith, rules, le-ltb, lt-ltb, le-leb}
-use borrow.Author.Tests.{lt-leb, not-true, not-false}
+use Rattle.std.proofs.Common.{◌∙◌, arith, le-ltb, lt-ltb, le-leb}
+use borrow.Author.Tests.{lt-leb}
 use Rattle.refusals.specs.Refusals.{before1972, no_instant, not_known, not_well_formed}
 use Rattle.calendar.specs.Calendar.{first_day}
 use Rattle.refusals.proofs.Checks.{pass, stop, passed, failed}
@@ -28,8 +28,7 @@ returns-then-limit-t c =
 
 pub returns-then-not-is_known : goal.returns-then-not-is_known
 returns-then-not-is_known c =
-    let args = c.args in
-    (
+    let args = c.args in (
       pass not_well_formed c.if-not-well.false
           ∙ pass before1972 (le-leb first_day _ c.if-day-lt-FIRST_DAY.false)
           ∙ pass no_instant (lt-ltb _ _ c.if-limit-t.false)

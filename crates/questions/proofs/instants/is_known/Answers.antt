@@ -1,5 +1,5 @@
 -- `questions::instants::is_known` meets its contract. Assumes nothing.
-use Rattle.std.proofs.Common.{sym, ◌∙◌, arith, rules}
+use Rattle.std.proofs.Common.{sym, ◌∙◌, arith}
 use Rattle.clock.proofs.Checks.{known_before, known_below, known_after, known_from}
 use Rattle.questions.proofs.instants.is_known.Goals as goal
 

@@ -1,5 +1,5 @@
 -- `questions::instants::is_whole` meets its contract. Assumes nothing.
-use Rattle.std.proofs.Common.{not, sym, ap, arith, rules}
+use Rattle.std.proofs.Common.{not, sym, ap, arith}
 use Rattle.calendar.proofs.Laws.{first_past}
 use Rattle.clock.specs.Known.{fully_known}
 use Rattle.questions.proofs.instants.is_whole.Goals as goal

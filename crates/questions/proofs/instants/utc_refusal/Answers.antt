@@ -1,5 +1,5 @@
 -- `questions::instants::utc_refusal` meets its contract. Assumes nothing.
-use Rattle.std.proofs.Common.{◌∙◌, arith, rules, le-ltb, lt-ltb}
+use Rattle.std.proofs.Common.{◌∙◌, arith, le-ltb, lt-ltb}
 use Rattle.refusals.specs.Refusals.{no_instant}
 use Rattle.clock.specs.Days.{long_day, day_length}
 use Rattle.refusals.proofs.Checks.{pass, stop}

@@ -4,7 +4,7 @@ use Rattle.schedule.specs.WordLayout.{count_word, meant}
 use Rattle.schedule.proofs.Gaps.{parts}
 use Rattle.schedule.proofs.Meant.{count_is, count_room}
 use Rattle.questions.proofs.LaidOut.{leap_meant}
-use Rattle.questions.proofs.Looked.{Beyond, beyond_none, beyond_one, beyond_found, beyond_all}
+use Rattle.questions.proofs.Looked.{beyond_none, beyond_one, beyond_found, beyond_all}
 use Rattle.questions.proofs.look.leaps_by.Goals as goal
 
 pub loop-n-init : goal.loop-n-init

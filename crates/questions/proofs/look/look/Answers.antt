@@ -1,5 +1,5 @@
 -- `questions::look::look` meets its contract. Assumes nothing.
-use Rattle.std.proofs.Common.{◌*◌, ◌<◌, ◌≤◌, length, get_or, sym, ap, ◌∙◌, true≢false, arith, rules}
+use Rattle.std.proofs.Common.{◌*◌, ◌<◌, ◌≤◌, length, get_or, sym, ap, ◌∙◌, true≢false, arith}
 use Rattle.schedule.specs.declared.Sign.{Sign}
 use Rattle.schedule.specs.Schedule.{Leap}
 use Rattle.schedule.specs.WordLayout.{count_word, meant}

@@ -1,7 +1,6 @@
 -- `questions::look::lowered` meets its contract. Assumes nothing.
-use Rattle.std.proofs.Common.{◌≡◌, ◌-◌, ◌<◌, ◌≤◌, sym, ap, ◌∙◌, arith, rules}
+use Rattle.std.proofs.Common.{◌≡◌, ◌<◌, sym, ap, ◌∙◌, arith, rules}
 use Rattle.schedule.specs.WordLayout.{count_word, meant}
-use Rattle.questions.specs.Private.{Lowered}
 use Rattle.schedule.proofs.Meant.{count_is, count_room}
 use Rattle.questions.proofs.LaidOut.{leap_meant}
 use Rattle.questions.proofs.Looked.{lowered_none, lowered_one}

@@ -1,9 +1,6 @@
-use Rattle.std.proofs.Common.{◌≡◌, ◌-◌, ◌<◌, ◌≤◌, sym, ap, ◌∙◌, arith, rules}
-use Rattle.schedule.specs.WordLayout.{count_word, meant}
+use Rattle.std.proofs.Common.{◌-◌, ◌≤◌}
+use Rattle.schedule.specs.WordLayout.{meant}
 use Rattle.questions.specs.Private.{Lowered}
-use Rattle.schedule.proofs.Meant.{count_is, count_room}
-use Rattle.questions.proofs.LaidOut.{leap_meant}
-use Rattle.questions.proofs.Looked.{lowered_none, lowered_one}
 use Rattle.questions.proofs.look.lowered.Given as goal
 
 abbrev pub invariant-loop-i : goal.invariant-loop-i

@@ -1,5 +1,5 @@
 -- `questions::look::said_by` meets its contract. Assumes nothing.
-use Rattle.std.proofs.Common.{◌≡◌, ◌-◌, min, refl, arith, rules}
+use Rattle.std.proofs.Common.{◌≡◌, ◌-◌, min, refl, arith}
 use Rattle.calendar.specs.Calendar.{last_month, month_start}
 use Rattle.calendar.proofs.Laws.{start_from, start_min}
 use Rattle.questions.proofs.Looked.{said_same, said_next}

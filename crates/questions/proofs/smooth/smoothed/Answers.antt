@@ -1,5 +1,5 @@
 -- `questions::smooth::smoothed` meets its contract. Assumes nothing.
-use Rattle.std.proofs.Common.{sym, arith, rules}
+use Rattle.std.proofs.Common.{sym, arith}
 use Rattle.clock.specs.declared.Ending.TheVariants.{Ordinary, Inserted, Deleted}
 use Rattle.clock.proofs.Tai.{length_least, length_most}
 use Rattle.clock.proofs.Uts.{uts_is, uts_early}

@@ -1,5 +1,5 @@
 -- `questions::smooth::unsmoothed` meets its contract. Assumes nothing.
-use Rattle.std.proofs.Common.{arith, rules}
+use Rattle.std.proofs.Common.{arith}
 use Rattle.clock.proofs.Back.{back_ordinary, back_inserted_low, back_inserted_high, back_deleted_low, back_deleted_high}
 use Rattle.questions.proofs.smooth.unsmoothed.Goals as goal
 

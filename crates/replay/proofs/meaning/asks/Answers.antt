@@ -1,5 +1,4 @@
 -- `replay::meaning::asks` meets its contract: a number is missing, or both are given. Assumes nothing.
-use borrow.Author.Rules.{rules}
 use mathlib.Core.Path.{sym, ◌∙◌}
 use Rattle.replay.proofs.Saying.{first_missing, second_missing, both_given}
 use Rattle.replay.proofs.meaning.asks.Goals as goal

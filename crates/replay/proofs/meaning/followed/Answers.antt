@@ -1,5 +1,4 @@
 -- `replay::meaning::followed` meets its contract. Assumes nothing.
-use borrow.Author.Rules.{rules}
 use borrow.Author.Tests.{eq-eqb, ne_eqb}
 use Rattle.replay.proofs.meaning.followed.Goals as goal
 

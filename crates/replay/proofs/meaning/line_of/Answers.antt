@@ -1,5 +1,4 @@
 -- `replay::meaning::line_of` meets its contract: no byte, one, or two and more. Assumes nothing.
-use borrow.Author.Rules.{rules}
 use borrow.Author.Tests.{eq-eqb, ne_eqb}
 use lib.ListN.{get_or}
 use Rattle.replay.proofs.Saying.{no_byte, one_byte, two_bytes}

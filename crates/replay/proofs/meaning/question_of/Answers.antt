@@ -1,5 +1,4 @@
 -- `replay::meaning::question_of` meets its contract: a field, and what follows it. Assumes nothing.
-use borrow.Author.Rules.{rules}
 use native.Mathlib.Omega.{arith}
 use mathlib.Core.Path.{sym, ◌∙◌}
 use lib.Seq.{length-take-le}

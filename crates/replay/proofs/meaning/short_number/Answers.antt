@@ -1,5 +1,4 @@
 -- `replay::meaning::short_number` meets its contract. Assumes nothing.
-use borrow.Author.Rules.{rules}
 use borrow.Author.Tests.{le-leb, lt-leb}
 use lib.ListN.{length}
 use Rattle.replay.specs.Trace.{short_number}

@@ -1,6 +1,6 @@
 -- `schedule::check::expiry_misfit` meets its contract: by bounds of the months' starts, or by the number of the expiry day's month.
 -- Assumes nothing.
-use Rattle.std.proofs.Common.{true, false, sym, ◌∙◌, arith, rules}
+use Rattle.std.proofs.Common.{true, false, sym, ◌∙◌, arith}
 use Rattle.schedule.proofs.ByNumber.{past_all, before_all, between, same_month, other_month}
 use Rattle.schedule.proofs.check.expiry_misfit.Goals as goal
 

@@ -1,9 +1,9 @@
 -- `schedule::check::leaps_fit` meets its contract: the loop counts the faults in the gaps of the schedule that the words lay out, and
 -- those of the sign words.
 -- Assumes nothing.
-use Rattle.std.proofs.Common.{◌-◌, arith, rules}
+use Rattle.std.proofs.Common.{arith}
 use Rattle.schedule.proofs.WordLayout.{laid_length}
-use Rattle.schedule.proofs.Faults.{GappedAt, gapped_at_none, gapped_at_one, gapped_at_all}
+use Rattle.schedule.proofs.Faults.{gapped_at_none, gapped_at_one, gapped_at_all}
 use Rattle.schedule.proofs.check.leaps_fit.Goals as goal
 
 pub loop-i-init : goal.loop-i-init

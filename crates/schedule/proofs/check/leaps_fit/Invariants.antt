@@ -1,6 +1,5 @@
-use Rattle.std.proofs.Common.{◌-◌, arith, rules}
-use Rattle.schedule.proofs.WordLayout.{laid_length}
-use Rattle.schedule.proofs.Faults.{GappedAt, gapped_at_none, gapped_at_one, gapped_at_all}
+use Rattle.std.proofs.Common.{◌-◌}
+use Rattle.schedule.proofs.Faults.{GappedAt}
 use Rattle.schedule.proofs.check.leaps_fit.Given as goal
 
 abbrev pub invariant-loop-i : goal.invariant-loop-i

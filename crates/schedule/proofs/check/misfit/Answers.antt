@@ -1,5 +1,5 @@
 -- `schedule::check::misfit` meets its contract. Assumes nothing.
-use Rattle.std.proofs.Common.{sym, arith, rules}
+use Rattle.std.proofs.Common.{sym, arith}
 use Rattle.schedule.proofs.Faults.{gap_near, gap_far}
 use Rattle.schedule.proofs.check.misfit.Goals as goal
 

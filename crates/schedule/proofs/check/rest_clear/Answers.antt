@@ -1,7 +1,7 @@
 -- `schedule::check::rest_clear` meets its contract. Assumes nothing.
-use Rattle.std.proofs.Common.{◌≡◌, ◌-◌, ◌*◌, ◌≤◌, arith, rules}
+use Rattle.std.proofs.Common.{◌≡◌, ◌*◌, arith}
 use Rattle.schedule.specs.WordLayout.{count_word}
-use Rattle.schedule.proofs.Clear.{Together, together_none, together_one, together_tells}
+use Rattle.schedule.proofs.Clear.{together_none, together_one, together_tells}
 use Rattle.schedule.proofs.check.rest_clear.Goals as goal
 
 pub loop-j-init : goal.loop-j-init

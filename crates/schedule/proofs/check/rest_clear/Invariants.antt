@@ -1,6 +1,6 @@
-use Rattle.std.proofs.Common.{◌≡◌, ◌-◌, ◌*◌, ◌≤◌, arith, rules}
+use Rattle.std.proofs.Common.{◌-◌, ◌*◌, ◌≤◌}
 use Rattle.schedule.specs.WordLayout.{count_word}
-use Rattle.schedule.proofs.Clear.{Together, together_none, together_one, together_tells}
+use Rattle.schedule.proofs.Clear.{Together}
 use Rattle.schedule.proofs.check.rest_clear.Given as goal
 
 abbrev pub invariant-loop-j : goal.invariant-loop-j

@@ -1,5 +1,4 @@
 -- `shell::words::own_of` meets its contract: the first word that it equals. Assumes nothing.
-use borrow.Author.Rules.{rules}
 use Rattle.shell.specs.Words.{own_of}
 use Rattle.shell.proofs.words.own_of.Goals as goal
 
