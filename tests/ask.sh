@@ -7,7 +7,7 @@ source "$(dirname "${BASH_SOURCE[0]}")/common.bash"
 cd "$root"
 other=${LEAPSEC-}
 if [ -z "$other" ]; then
-    quietly "rt check leapsec" rt check leapsec
+    quietly "tools/build leapsec" tools/build leapsec
     LEAPSEC=$root/target/bin/leapsec
 fi
 quietly "the second program does not build" env -C rust cargo build --offline --locked --quiet --release -p second
@@ -52,10 +52,10 @@ umask 022
 copy=$(mktemp -d)
 trap 'rm -rf "$copy" "$log"' EXIT
 chmod 755 "$copy"
-mkdir "$copy/crates" "$copy/tools"
+mkdir -p "$copy/crates/leapsec" "$copy/tools"
 cp leapsec crates.txt "$copy"
 touch "$copy/crates/source"
-for tool in bash chmod dirname find flock mkdir readlink rm sleep tail touch; do
+for tool in bash chmod cp dirname find flock mkdir mv readlink rm sleep tail touch; do
     ln -s "$(command -v "$tool")" "$copy/tools/$tool"
 done
 
@@ -89,11 +89,11 @@ fi
 # an rt that builds a program, during whose first run a source is saved
 cat >"$copy/tools/rt" <<'END'
 #!/usr/bin/env bash
-mkdir -p target/bin
-printf '#!/usr/bin/env bash\necho "$@"\n' >target/bin/leapsec
-chmod +x target/bin/leapsec
+mkdir -p out
+printf '#!/usr/bin/env bash\necho "$@"\n' >out/leapsec
+chmod +x out/leapsec
 sleep 0.1
-[ -e saved ] || touch saved crates/source
+[ -e ../../saved ] || touch ../../saved ../source
 END
 chmod +x "$copy/tools/rt"
 for builds in 1 1 0; do

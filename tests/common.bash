@@ -55,10 +55,10 @@ if [ -n "${LEAP_LIB_DIR-}" ]; then
 else
     LEAP_LIB_DIR=$root/target/staticlib
     archive=$LEAP_LIB_DIR/libleap.a
-    if ! [ -f "$archive" ] || [ -n "$(find "$root/crates" "$root/crates.txt" -newer "$archive" -print -quit)" ]; then
+    if ! [ -f "$archive" ] || [ -n "$(find "$root/crates" "$root/crates.txt" -name out -prune -o -newer "$archive" -print -quit)" ]; then
         cd "$root"
-        echo "the archive is missing or older than the crates: building it first, with rt staticlib leap" >&2
-        quietly "rt staticlib leap" rt staticlib leap
+        echo "the archive is missing or older than the crates: building it first, with tools/build archive" >&2
+        quietly "tools/build archive" tools/build archive
     fi
 fi
 export LEAP_LIB_DIR

@@ -8,7 +8,7 @@ current='6+6+12+12+12+12+12+12+12+18+12+12+24+30+24+12+18+12+12+18+18+18+84+36+4
 table=/usr/share/zoneinfo/leap-seconds.list
 
 cd "$root"
-quietly "rt check leapsec" rt check leapsec
+quietly "tools/build leapsec" tools/build leapsec
 [ "$(target/bin/leapsec text "$(target/bin/leapsec nybbles current)")" = "$current" ] || fail "the list of the program is another one"
 ok "the list that the program has built in is the one compared here"
 

@@ -5,7 +5,7 @@
 source "$(dirname "${BASH_SOURCE[0]}")/common.bash"
 
 cd "$root"
-quietly "rt check leapsec" rt check leapsec
+quietly "tools/build leapsec" tools/build leapsec
 quietly "./leapsec" ./leapsec help # which says that it builds, where it does
 for document in README.md docs/CLASS.md; do
     quietly "$document" python3 -B tests/docs.py "$document"

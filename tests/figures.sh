@@ -5,7 +5,7 @@
 source "$(dirname "${BASH_SOURCE[0]}")/common.bash"
 
 cd "$root"
-quietly "rt check figures months" rt check figures months
+quietly "tools/build figures months" tools/build figures months
 quietly "the second program does not build" env -C rust cargo build --offline --locked --quiet --release -p second
 second=target/rust/release/second
 

@@ -5,7 +5,7 @@ source "$(dirname "${BASH_SOURCE[0]}")/common.bash"
 
 cd "$root"
 if [ -z "${LEAPSEC-}" ]; then
-    quietly "rt check leapsec" rt check leapsec
+    quietly "tools/build leapsec" tools/build leapsec
     LEAPSEC=$root/target/bin/leapsec
 fi
 quietly "the second program does not build" env -C rust cargo build --offline --locked --quiet --release -p second

@@ -1,21 +1,18 @@
 #!/usr/bin/env bash
-# Facts about the repository that no proof states. Run after `rt ci`: it reads what the last check of each crate said.
+# Facts about the repository that no proof states.
 set -euo pipefail
 cd "$(dirname "${BASH_SOURCE[0]}")/.."
 passed=0
 fail() { echo "FAILED: $1"; exit 1; }
 ok() { echo "ok $1"; passed=$((passed + 1)); }
 
-crates=$(sed 's/#.*//; s/:.*//' crates.txt | tr -d ' ' | grep -v '^$')
+crates=$(sed 's/#.*//; s/:.*//; s/ staticlib//' crates.txt | tr -d ' ' | grep -v '^$')
 
 python3 tools/month_table.py | cmp -s - crates/calendar/src/table.rt || fail "crates/calendar/src/table.rt is not what tools/month_table.py prints"
 ok "the month table is what its generator prints"
 
 python3 tools/refusals.py --check || fail "the refusals are not everywhere as tools/refusals.txt has them"
 ok "the refusals are everywhere as their table has them"
-
-rt fmt --check >/dev/null || fail "rt fmt --check names files that are not in the layout"
-ok "every file is in the layout of rt fmt"
 
 # every public function of a library has an `ensures` and no `requires`. Of the functions in these files, which write to standard output, no contract
 # could say what they do: they have none, and no `requires`
@@ -61,14 +58,12 @@ calls first_day at_most_last computed_start
 calls is_first first_day latest_month
 ok "the month of a day comes from an estimate, and whether it is a first, with no table, no loop and no function that calls itself"
 
-# what a crate assumes is counted on its last line; a library assumes nothing
+# what a crate assumes is counted on the last line of its check; a library assumes nothing. That each is proved from nothing is `rt ci`'s to see
 for crate in $crates; do
     [ -f "crates/$crate/src/lib.rt" ] || continue
-    log=target/log/$crate.say
-    [ -f "$log" ] || fail "$log is missing: run rt check first"
-    grep -q '^logic=proved' "$log" || fail "$log has no verdict"
-    ! grep -E '^logic=|axioms' "$log" | grep -qE 'axioms|foreign=[1-9]' || fail "$crate rests on an axiom"
-    ! grep -qE 'cache=trusted|incremental=trusted' "$log" || fail "$crate was not checked from nothing"
+    said=$(cd "crates/$crate" && rt check) || fail "rt check of $crate"
+    grep -q '^logic=proved' <<<"$said" || fail "$crate has no verdict"
+    ! grep -E '^logic=' <<<"$said" | grep -qE 'axioms=|foreign=[1-9]' || fail "$crate rests on an axiom"
 done
 ok "no library rests on an axiom"
 

@@ -10,6 +10,7 @@ import datetime
 MJD_0 = datetime.date(1858, 11, 17)
 FIRST_YEAR = 1972
 LAST_MONTH = 2400
+WIDTH = 100  # of a line in the layout of `rt fmt`
 
 
 def month_start(month):
@@ -21,8 +22,14 @@ def main():
     print("// The Modified Julian Days on which months 0 to 2400 start, from January 1972 to January 2172.")
     print("// Written by tools/month_table.py.")
     print(f"pub const MONTH_STARTS: [u32; {LAST_MONTH + 1}] = [")
+    row = "   "
     for month in range(LAST_MONTH + 1):
-        print(f"    {month_start(month)},")
+        entry = f" {month_start(month)},"
+        if len(row) + len(entry) > WIDTH:
+            print(row)
+            row = "   "
+        row += entry
+    print(row)
     print("];")
 
 

@@ -24,8 +24,8 @@ class Refusal:
     def camel(self):
         return "".join(word.capitalize() for word in self.name.split("_"))
 
-    def lower_camel(self):
-        return self.camel()[0].lower() + self.camel()[1:]
+    def snake(self):
+        return re.sub(r"_(?=\d)", "", self.name.lower())
 
 
 def table():
@@ -57,7 +57,7 @@ def wrapped(text, width):
 
 
 def code(refusals):
-    out = ["// The refusals by name. An accepted answer carries 0."]
+    out = ["// The refusals by name. An accepted answer carries 0.", "#![tactic(auto)]"]
     for r in refusals:
         out += ["", f"// {sentence(r.meaning())}.", f"pub const {r.name}: u8 = {r.number};"]
     return "\n".join(out) + "\n"
@@ -67,10 +67,10 @@ def definitions(refusals):
     out = [
         "-- The numbers of the refusals by name, 01's and those that the change requests add. An accepted answer carries 0.",
         "-- Assumes nothing: these are definitions.",
-        "use Prim.Native.Nat.{ℕ}",
+        "use Rattle.std.specs.Prelude.{ℕ}",
     ]
     for r in refusals:
-        out += ["", f"-- {r.number}: {r.meaning()}", f"abbrev pub {r.lower_camel()} : ℕ", f"{r.lower_camel()} = {r.number}"]
+        out += ["", f"-- {r.number}: {r.meaning()}", f"abbrev pub {r.snake()} : ℕ", f"{r.snake()} = {r.number}"]
     return "\n".join(out) + "\n"
 
 

@@ -15,7 +15,7 @@ fn main() {
     println!("cargo:rerun-if-changed={}", archive.display());
     if !archive.is_file() {
         eprintln!("{} is missing", archive.display());
-        eprintln!("run: rt staticlib leap (or name the archive's folder in LEAP_LIB_DIR)");
+        eprintln!("run: tools/build archive (or name the archive's folder in LEAP_LIB_DIR)");
         exit(1);
     }
     println!("cargo:rustc-link-search=native={}", folder.display());

@@ -32,12 +32,14 @@ pub fn say(rt: &HostRuntime, what: &str, error: io::Error) {
     let _ = try_say(rt, what, error);
 }
 
-// Writes bytes, or says that it can't and answers false.
+// Writes bytes, or says that it can't and answers false. Where nobody reads any more it says nothing.
 pub fn write(rt: &HostRuntime, bytes: &[u8]) -> bool {
     match rt.write_all(bytes) {
         Ok(()) => true,
         Err(error) => {
-            say(rt, "standard output", error);
+            if error.kind() != io::ErrorKind::BrokenPipe {
+                say(rt, "standard output", error);
+            }
             false
         }
     }
