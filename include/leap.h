@@ -1,6 +1,6 @@
 /* leap.h: leap second lists, TAI, UTC and smoothed time (UTS).
  *
- * Link with target/staticlib/libleap.a, which `rt staticlib leap` makes.
+ * Link with target/staticlib/libleap.a, which `tools/build archive` makes.
  *
  *     leap_schedule s;
  *     uint64_t place, nanos;
