@@ -10,16 +10,13 @@ use native.Mathlib.Omega.{arith}
 use borrow.Author.Tests.{eqb-true, leb-true}
 use lib.Dec.{eqb, leb}
 use lib.ListN.{length, get_or}
+use Rattle.calendar.proofs.Estimates.{estimated}
 use Rattle.calendar.specs.Calendar.{first_day, last_month, is_leap_year, month_lengths, days_in_month, month_start}
 
 -- the year 2100 is not a leap year
 pub no_leap_2100 : is_leap_year 2100 ≡ false
 unfolding is_leap_year
 no_leap_2100 = refl
-
--- the estimate of the month of day d
-abbrev pub estimated : ℕ → ℕ
-estimated d = (d - 41_301) * 16 / 487
 
 -- the last day of month m, which starts on day s
 abbrev last_of : ℕ → ℕ → ℕ

@@ -1,3 +1,4 @@
+pub mod Estimates
 pub mod Greatest
 pub mod Gregorian
 pub mod Laws

@@ -4,7 +4,8 @@ use mathlib.Core.Path.{◌≡◌}
 use Prim.Native.Nat.{ℕ, ◌+◌, ◌*◌, ◌≤◌, ◌<◌}
 use native.Mathlib.Omega.{arith}
 use Rattle.calendar.specs.Calendar.{first_day, last_month, end_day, month_start, month_of, MonthOrNext}
-use Rattle.calendar.proofs.Gregorian.{estimated, closed_right}
+use Rattle.calendar.proofs.Estimates.{estimated}
+use Rattle.calendar.proofs.Gregorian.{closed_right}
 use Rattle.calendar.proofs.Laws.{start_next, start_last, start_lt, start_from, started, not_started, first_in, is_month, in_month, month_below}
 
 -- of the month of a day and the next one, the next is the one that starts after the day,

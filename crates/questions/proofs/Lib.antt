@@ -5,6 +5,7 @@ pub mod Places
 pub mod Told
 pub mod Near
 pub mod Held
+pub mod Exact
 pub mod Said
 pub mod Signs
 pub mod Signed

@@ -22,6 +22,7 @@ use Rattle.clock.proofs.Checks.{known_sure, sure_through}
 use Rattle.questions.specs.declared.by_day.Day.{Day}
 use Rattle.questions.specs.Said.{dtai_said, ListFor, DayFor, held, tai_said, dtai_by, tai_by, uts_by, early_uts, micros_by, early_micros, near_day, on_day, from_start, utc_by}
 use Rattle.questions.proofs.Told.{known_on_date, early_as_date, early_utc}
+use Rattle.questions.proofs.Exact.{held_exact, tai_held}
 use Rattle.questions.proofs.Near.{near_from, near_begun, from_near}
 
 -- ---- the checks
@@ -43,20 +44,6 @@ module _ {s : Schedule} {well : Bool} {last : ℕ} (f : ListFor s well last) whe
       same_check (ltb t limit) no_instant refl λ _.
       same_check (known_to (last_day s) cutoff day t) not_known (ap (λ Z. known_to Z cutoff day t) (f.is_last w)) λ q.
       e w (leb-true first_day day p) (sure_through (known_sure (last_day s) cutoff day t q))
-
--- ---- where nothing wraps
-
-held_exact : (a b : ℕ) → b ≤ a → held a b ≡ a - b
-held_exact a b l = rw (le-leb b a l)
-
--- TAI by what is said is TAI: by a day no more seconds are taken away than days have passed, and those added
-tai_held : (s : Schedule) → well_formed s ≡ true → (day t : ℕ) → first_day ≤ day → (k : Day) → dtai_said k ≡ dtai s day → tai_said k day t ≡ tai s day t
-tai_held s w day t i k e =
-    let few = deleted_few s w day i in
-    let same : first_dtai + k.up + tally Negative s.leaps day ≡ first_dtai + tally Positive s.leaps day + k.down
-    = minus_same (first_dtai + k.up) k.down (first_dtai + tally Positive s.leaps day) (tally Negative s.leaps day) (e ∙ dtai_tallied s day) in
-    held_exact (micros_per_day * day + t + micros_per_second * (first_dtai + k.up)) (micros_per_day * first_day + micros_per_second * k.down) (omega arith)
-    ∙ omega (arith, tai_tallied s day t i)
 
 -- ---- the questions, by what is said of the day
 

@@ -15,13 +15,13 @@ use Rattle.calendar.proofs.entry.Goals as goal
 abbrev table : List ℕ
 table = MONTH_STARTS
 
-table-passes : all_right 0 first_day table ≡ true
+table_passes : all_right 0 first_day table ≡ true
 unfolding days_in_month month_lengths is_leap_year
-table-passes = refl
+table_passes = refl
 
 -- each entry of the table is the day on which its month starts by the Gregorian rule
-table-is-gregorian : {m : ℕ} → m ≤ last_month → get_or table m 0 ≡ month_start m
-table-is-gregorian {m} h = (listed table table-passes m (omega arith)).start
+table_is_gregorian : {m : ℕ} → m ≤ last_month → get_or table m 0 ≡ month_start m
+table_is_gregorian {m} h = (listed table table_passes m (omega arith)).start
 
 pub returns : goal.returns
-returns c = table-is-gregorian c.requires
+returns c = table_is_gregorian c.requires

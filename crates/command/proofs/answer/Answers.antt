@@ -4,5 +4,5 @@ use Rattle.command.proofs.answer.Goals as goal
 
 pub returns : goal.returns
 returns c =
-    let put-answer = c.put_answer in
-    let e = from_start_lem put-answer.ensures.puts in record { count = e.0; holds = e.1; short = put-answer.ensures.short }
+    let put_answer = c.put_answer in
+    let e = from_start_lem put_answer.ensures.puts in record { count = e.0; holds = e.1; short = put_answer.ensures.short }

@@ -23,14 +23,14 @@ shape_of-out-then-end-input c =
 pub returns-then-end-input : goal.returns-then-end-input
 returns-then-end-input c =
     let loop = c.loop-out in
-    let part-end = c.part_end-end in
+    let part_end = c.part_end-end in
     let if1 = c.if-end-input in
-    last asking loop.invariant part-end.ensures if1.true
+    last asking loop.invariant part_end.ensures if1.true
 
 pub slice_bounds-put_answer-count : goal.slice_bounds-put_answer-count
 slice_bounds-put_answer-count c =
-    let part-end = c.part_end-end in
-    omega (arith, part-end.ensures)
+    let part_end = c.part_end-end in
+    omega (arith, part_end.ensures)
 
 pub slice_bounds-put_answer-start : goal.slice_bounds-put_answer-start
 slice_bounds-put_answer-start c =
@@ -39,35 +39,35 @@ slice_bounds-put_answer-start c =
 
 pub slice_bounds-put_answer-end : goal.slice_bounds-put_answer-end
 slice_bounds-put_answer-end c =
-    let part-end = c.part_end-end in
+    let part_end = c.part_end-end in
     let loop = c.loop-out in
-    omega (arith, part-end.ensures, end_inside asking loop.invariant part-end.ensures)
+    omega (arith, part_end.ensures, end_inside asking loop.invariant part_end.ensures)
 
 pub overflow_add-used : goal.overflow_add-used
 overflow_add-used c =
     let loop = c.loop-out in
-    let part-end = c.part_end-end in
+    let part_end = c.part_end-end in
     let if1 = c.if-end-input in
-    let inside = before_end asking loop.invariant part-end.ensures if1.false in
+    let inside = before_end asking loop.invariant part_end.ensures if1.false in
     search rules
 
 pub loop-out-smaller : goal.loop-out-smaller
 loop-out-smaller c =
-    let part-end = c.part_end-end in
+    let part_end = c.part_end-end in
     let loop = c.loop-out in
     let if1 = c.if-end-input in
-    omega (arith, part-end.ensures, before_end asking loop.invariant part-end.ensures if1.false)
+    omega (arith, part_end.ensures, before_end asking loop.invariant part_end.ensures if1.false)
 
 pub loop-out-preserved : goal.loop-out-preserved
 unfolding answer_line
 loop-out-preserved c =
     let loop = c.loop-out in
-    let part-end = c.part_end-end in
+    let part_end = c.part_end-end in
     let if1 = c.if-end-input in
-    let loop-test = c.loop-out-test in
-    let put-answer = c.put_answer-next in
+    let loop_test = c.loop-out-test in
+    let put_answer = c.put_answer-next in
     let put = c.put-written in
-    step asking loop.invariant part-end.ensures if1.false loop-test.true (up_to put-answer.ensures (a_byte put.ensures) refl (omega arith)) refl
+    step asking loop.invariant part_end.ensures if1.false loop_test.true (up_to put_answer.ensures (a_byte put.ensures) refl (omega arith)) refl
 
 pub shape_of-out : goal.shape_of-out
 shape_of-out c =
@@ -77,5 +77,5 @@ shape_of-out c =
 pub returns : goal.returns
 returns c =
     let loop = c.loop-out in
-    let loop-test = c.loop-out-test in
-    full asking loop.invariant (omega (arith, loop-test.false))
+    let loop_test = c.loop-out-test in
+    full asking loop.invariant (omega (arith, loop_test.false))

@@ -7,28 +7,28 @@ use Rattle.command.proofs.put_after_field.Goals as goal
 
 pub returns-in-ListAndNumber : goal.returns-in-ListAndNumber
 returns-in-ListAndNumber c =
-    let put-of-number = c.put_of_number in
+    let put_of_number = c.put_of_number in
     let args = c.args in
     let form_of = c.form_of-form in
-    few put-of-number.ensures (by_form args.lines args.word _ form_of.ensures ∙ rw c.in-ListAndNumber.is) (omega arith)
+    few put_of_number.ensures (by_form args.lines args.word _ form_of.ensures ∙ rw c.in-ListAndNumber.is) (omega arith)
 
 pub returns-in-ListAndTime : goal.returns-in-ListAndTime
 returns-in-ListAndTime c =
-    let put-after-list = c.put_after_list in
+    let put_after_list = c.put_after_list in
     let args = c.args in
     let form_of = c.form_of-form in
-    few put-after-list.ensures (by_form args.lines args.word _ form_of.ensures ∙ rw c.in-ListAndTime.is) (omega arith)
+    few put_after_list.ensures (by_form args.lines args.word _ form_of.ensures ∙ rw c.in-ListAndTime.is) (omega arith)
 
 pub returns-in-TwoLists : goal.returns-in-TwoLists
 returns-in-TwoLists c =
-    let put-of-pair = c.put_of_pair in
+    let put_of_pair = c.put_of_pair in
     let args = c.args in
     let form_of = c.form_of-form in
-    few put-of-pair.ensures (by_form args.lines args.word _ form_of.ensures ∙ rw c.in-TwoLists.is) (omega arith)
+    few put_of_pair.ensures (by_form args.lines args.word _ form_of.ensures ∙ rw c.in-TwoLists.is) (omega arith)
 
 pub returns-in_default : goal.returns-in_default
 returns-in_default c =
-    let put-expected = c.put_expected in
+    let put_expected = c.put_expected in
     let args = c.args in
     let form_of = c.form_of-form in
-    few put-expected.ensures (by_form args.lines args.word _ form_of.ensures ∙ not_several args.lines _ _ _ form_of.result c.in_default.not-ListAndNumber c.in_default.not-ListAndTime c.in_default.not-TwoLists) (omega arith)
+    few put_expected.ensures (by_form args.lines args.word _ form_of.ensures ∙ not_several args.lines _ _ _ form_of.result c.in_default.not-ListAndNumber c.in_default.not-ListAndTime c.in_default.not-TwoLists) (omega arith)

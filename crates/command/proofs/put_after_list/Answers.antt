@@ -14,16 +14,16 @@ slice_bounds-put_of_time-end c =
 
 pub returns-then-end-rest : goal.returns-then-end-rest
 returns-then-end-rest c =
-    let put-of-time = c.put_of_time in
+    let put_of_time = c.put_of_time in
     let args = c.args in
-    let part-end = c.part_end-end in
+    let part_end = c.part_end-end in
     let if1 = c.if-end-rest in
-    few put-of-time.ensures (rw (first_and_rest 32 args.rest.now _ part-end.ensures if1.true)) (omega arith)
+    few put_of_time.ensures (rw (first_and_rest 32 args.rest.now _ part_end.ensures if1.true)) (omega arith)
 
 pub returns : goal.returns
 returns c =
-    let put-expected = c.put_expected in
+    let put_expected = c.put_expected in
     let args = c.args in
-    let part-end = c.part_end-end in
+    let part_end = c.part_end-end in
     let if1 = c.if-end-rest in
-    few put-expected.ensures (rw (only 32 args.rest.now _ part-end.ensures if1.false)) (omega arith)
+    few put_expected.ensures (rw (only 32 args.rest.now _ part_end.ensures if1.false)) (omega arith)

@@ -14,16 +14,16 @@ slice_bounds-put_after_field-end c =
 
 pub returns-then-end-rest : goal.returns-then-end-rest
 returns-then-end-rest c =
-    let put-after-field = c.put_after_field in
+    let put_after_field = c.put_after_field in
     let args = c.args in
-    let part-end = c.part_end-end in
+    let part_end = c.part_end-end in
     let if1 = c.if-end-rest in
-    few put-after-field.ensures (rw (first_and_rest 32 args.rest.now _ part-end.ensures if1.true)) (omega arith)
+    few put_after_field.ensures (rw (first_and_rest 32 args.rest.now _ part_end.ensures if1.true)) (omega arith)
 
 pub returns : goal.returns
 returns c =
-    let put-with-one = c.put_with_one in
+    let put_with_one = c.put_with_one in
     let args = c.args in
-    let part-end = c.part_end-end in
+    let part_end = c.part_end-end in
     let if1 = c.if-end-rest in
-    few put-with-one.ensures (rw (only 32 args.rest.now _ part-end.ensures if1.false)) (omega arith)
+    few put_with_one.ensures (rw (only 32 args.rest.now _ part_end.ensures if1.false)) (omega arith)

@@ -22,20 +22,20 @@ slice_bounds-word_of-end c =
 
 pub returns-then-end-line : goal.returns-then-end-line
 returns-then-end-line c =
-    let put-after-word = c.put_after_word in
+    let put_after_word = c.put_after_word in
     let args = c.args in
     let if1 = c.if-line-gt-MAX_LINE in
-    let part-end = c.part_end-end in
+    let part_end = c.part_end-end in
     let if2 = c.if-end-line in
     let word_of = c.word_of in
-    few put-after-word.ensures (in_parts args.lines args.line.now if1.false ∙ rw (first_and_rest 32 args.line.now _ part-end.ensures if2.true, word_of.ensures)) (omega arith)
+    few put_after_word.ensures (in_parts args.lines args.line.now if1.false ∙ rw (first_and_rest 32 args.line.now _ part_end.ensures if2.true, word_of.ensures)) (omega arith)
 
 pub returns : goal.returns
 returns c =
-    let put-expected = c.put_expected in
+    let put_expected = c.put_expected in
     let args = c.args in
     let if1 = c.if-line-gt-MAX_LINE in
-    let part-end = c.part_end-end in
+    let part_end = c.part_end-end in
     let if2 = c.if-end-line in
-    let word-of2 = c.word_of-2 in
-    few put-expected.ensures (in_parts args.lines args.line.now if1.false ∙ rw (only 32 args.line.now _ part-end.ensures if2.false, word-of2.ensures) (no_fields args.lines _)) (omega arith)
+    let word_of2 = c.word_of-2 in
+    few put_expected.ensures (in_parts args.lines args.line.now if1.false ∙ rw (only 32 args.line.now _ part_end.ensures if2.false, word_of2.ensures) (no_fields args.lines _)) (omega arith)

@@ -7,11 +7,11 @@ use Rattle.command.proofs.put_of_list.Goals as goal
 pub returns-in-Show : goal.returns-in-Show
 unfolding of_list
 returns-in-Show c =
-    let put-list-shown = c.put_list_shown in
-    few put-list-shown.ensures (rw c.in-Show.is) (omega arith)
+    let put_list_shown = c.put_list_shown in
+    few put_list_shown.ensures (rw c.in-Show.is) (omega arith)
 
 pub returns-in-Nybbles : goal.returns-in-Nybbles
 unfolding of_list
 returns-in-Nybbles c =
-    let put-list-nybbles = c.put_list_nybbles in
-    few put-list-nybbles.ensures (rw c.in-Nybbles.is) (omega arith)
+    let put_list_nybbles = c.put_list_nybbles in
+    few put_list_nybbles.ensures (rw c.in-Nybbles.is) (omega arith)

@@ -8,26 +8,26 @@ use Rattle.command.proofs.put_of_pair.Goals as goal
 
 pub returns-then-part_end-rest : goal.returns-then-part_end-rest
 returns-then-part_end-rest c =
-    let put-expected = c.put_expected in
+    let put_expected = c.put_expected in
     let args = c.args in
-    let part-end = c.part_end in
+    let part_end = c.part_end in
     let if1 = c.if-part_end-rest in
-    few put-expected.ensures (no_field args.rest.now _ part-end.ensures _ _ if1.true) (omega arith)
+    few put_expected.ensures (no_field args.rest.now _ part_end.ensures _ _ if1.true) (omega arith)
 
 pub returns-in-Compare : goal.returns-in-Compare
 unfolding of_pair
 returns-in-Compare c =
-    let put-comparison = c.put_comparison in
+    let put_comparison = c.put_comparison in
     let args = c.args in
-    let part-end = c.part_end in
+    let part_end = c.part_end in
     let if1 = c.if-part_end-rest in
-    few put-comparison.ensures (one_field_lem args.rest.now _ part-end.ensures _ _ if1.false ∙ rw c.in-Compare.is) (omega arith)
+    few put_comparison.ensures (one_field_lem args.rest.now _ part_end.ensures _ _ if1.false ∙ rw c.in-Compare.is) (omega arith)
 
 pub returns-in-Longer : goal.returns-in-Longer
 unfolding of_pair
 returns-in-Longer c =
-    let put-longer = c.put_longer in
+    let put_longer = c.put_longer in
     let args = c.args in
-    let part-end = c.part_end in
+    let part_end = c.part_end in
     let if1 = c.if-part_end-rest in
-    few put-longer.ensures (one_field_lem args.rest.now _ part-end.ensures _ _ if1.false ∙ rw c.in-Longer.is) (omega arith)
+    few put_longer.ensures (one_field_lem args.rest.now _ part_end.ensures _ _ if1.false ∙ rw c.in-Longer.is) (omega arith)

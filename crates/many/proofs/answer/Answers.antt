@@ -15,16 +15,16 @@ pub returns-then-not-is_list : goal.returns-then-not-is_list
 returns-then-not-is_list c =
     let shortest = c.shortest-n in
     let args = c.args in
-    let is-list = c.is_list in
+    let is_list = c.is_list in
     let if1 = c.if-not-is_list in
     let refuse = c.refuse in
-    refuses_two _ _ _ shortest.ensures.is (none_asked args.asked (meant args.words.now) (failed is-list.ensures if1.true)) refuse.ensures.0 refuse.ensures.1
+    refuses_two _ _ _ shortest.ensures.is (none_asked args.asked (meant args.words.now) (failed is_list.ensures if1.true)) refuse.ensures.0 refuse.ensures.1
 
 pub prepare-requires : goal.prepare-requires
 prepare-requires c =
-    let is-list = c.is_list in
+    let is_list = c.is_list in
     let if1 = c.if-not-is_list in
-    (passed is-list.ensures if1.false, all_clear.0, all_clear.1)
+    (passed is_list.ensures if1.false, all_clear.0, all_clear.1)
 
 pub fill-requires : goal.fill-requires
 fill-requires c =

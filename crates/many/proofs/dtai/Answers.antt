@@ -16,16 +16,16 @@ refuse_dtai-requires c = (omega arith, omega arith)
 pub returns-then-not-is_list : goal.returns-then-not-is_list
 returns-then-not-is_list c =
     let args = c.args in
-    let is-list = c.is_list in
+    let is_list = c.is_list in
     let if1 = c.if-not-is_list in
-    let refuse-dtai = c.refuse_dtai in
-    refuses_one (dtai_on (meant args.words.now)) args.days.now (omega arith) (λ x. stop _ not_well_formed (failed is-list.ensures if1.true)) refuse-dtai.ensures.0 refuse-dtai.ensures.1
+    let refuse_dtai = c.refuse_dtai in
+    refuses_one (dtai_on (meant args.words.now)) args.days.now (omega arith) (λ x. stop _ not_well_formed (failed is_list.ensures if1.true)) refuse_dtai.ensures.0 refuse_dtai.ensures.1
 
 pub prepare-requires : goal.prepare-requires
 prepare-requires c =
-    let is-list = c.is_list in
+    let is_list = c.is_list in
     let if1 = c.if-not-is_list in
-    (passed is-list.ensures if1.false, all_clear.0, all_clear.1)
+    (passed is_list.ensures if1.false, all_clear.0, all_clear.1)
 
 pub fill_dtai-requires : goal.fill_dtai-requires
 fill_dtai-requires c =
@@ -35,6 +35,6 @@ fill_dtai-requires c =
 pub returns : goal.returns
 returns c =
     let args = c.args in
-    let fill-dtai = c.fill_dtai in
+    let fill_dtai = c.fill_dtai in
     let prepare = c.prepare in
-    hands_one (dtai_on (meant args.words.now)) args.days.now (omega arith) (fill-dtai.ensures _ prepare.ensures.1)
+    hands_one (dtai_on (meant args.words.now)) args.days.now (omega arith) (fill_dtai.ensures _ prepare.ensures.1)

@@ -18,16 +18,16 @@ pub returns-then-not-is_list : goal.returns-then-not-is_list
 returns-then-not-is_list c =
     let args = c.args in
     let shortest = c.shortest-n in
-    let is-list = c.is_list in
+    let is_list = c.is_list in
     let if1 = c.if-not-is_list in
-    let refuse-utc = c.refuse_utc in
-    refuses_utcs (tai_to_utc (meant args.words.now)) args.tais.now shortest.ensures.is (λ x. stop _ not_well_formed (failed is-list.ensures if1.true)) refuse-utc.ensures.0 refuse-utc.ensures.1 refuse-utc.ensures.2
+    let refuse_utc = c.refuse_utc in
+    refuses_utcs (tai_to_utc (meant args.words.now)) args.tais.now shortest.ensures.is (λ x. stop _ not_well_formed (failed is_list.ensures if1.true)) refuse_utc.ensures.0 refuse_utc.ensures.1 refuse_utc.ensures.2
 
 pub prepare-requires : goal.prepare-requires
 prepare-requires c =
-    let is-list = c.is_list in
+    let is_list = c.is_list in
     let if1 = c.if-not-is_list in
-    (passed is-list.ensures if1.false, all_clear.0, all_clear.1)
+    (passed is_list.ensures if1.false, all_clear.0, all_clear.1)
 
 pub fill_utc-requires : goal.fill_utc-requires
 fill_utc-requires c =
@@ -39,6 +39,6 @@ pub returns : goal.returns
 returns c =
     let args = c.args in
     let shortest = c.shortest-n in
-    let fill-utc = c.fill_utc in
+    let fill_utc = c.fill_utc in
     let prepare = c.prepare in
-    hands_utcs (tai_to_utc (meant args.words.now)) args.tais.now shortest.ensures.is (fill-utc.ensures _ prepare.ensures.1)
+    hands_utcs (tai_to_utc (meant args.words.now)) args.tais.now shortest.ensures.is (fill_utc.ensures _ prepare.ensures.1)

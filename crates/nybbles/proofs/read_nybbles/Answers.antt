@@ -24,10 +24,10 @@ pub returns-then-number-ne0 : goal.returns-then-number-ne0
 returns-then-number-ne0 c =
     let loop = c.loop-at in
     let code_at = c.code_at-c in
-    let fault-of = c.fault_of-number in
+    let fault_of = c.fault_of-number in
     let if1 = c.if-number-ne0 in
-    let hand-refusal = c.hand_refusal in
-    reading.refuses _ _ _ _ loop.invariant _ code_at.ensures _ fault-of.ensures if1.true _ _ _ hand-refusal.ensures
+    let hand_refusal = c.hand_refusal in
+    reading.refuses _ _ _ _ loop.invariant _ code_at.ensures _ fault_of.ensures if1.true _ _ _ hand_refusal.ensures
 
 pub overflow_add-at : goal.overflow_add-at
 overflow_add-at c =
@@ -39,39 +39,39 @@ pub after_code-p-requires : goal.after_code-p-requires
 after_code-p-requires c =
     let loop = c.loop-at in
     let code_at = c.code_at-c in
-    let fault-of = c.fault_of-number in
+    let fault_of = c.fault_of-number in
     let if1 = c.if-number-ne0 in
-    reading.passed _ _ _ _ loop.invariant _ code_at.ensures _ fault-of.ensures if1.false
+    reading.passed _ _ _ _ loop.invariant _ code_at.ensures _ fault_of.ensures if1.false
 
 -- a nybble after the expiry
 pub returns-then-at-bytes : goal.returns-then-at-bytes
 returns-then-at-bytes c =
     let loop = c.loop-at in
     let code_at = c.code_at-c in
-    let fault-of = c.fault_of-number in
+    let fault_of = c.fault_of-number in
     let if1 = c.if-number-ne0 in
-    let after-code = c.after_code-p in
-    let is-expiry = c.is_expiry in
+    let after_code = c.after_code-p in
+    let is_expiry = c.is_expiry in
     let if2 = c.if-is_expiry in
     let args = c.args in
     let if3 = c.if-at-bytes in
-    let hand-refusal2 = c.hand_refusal-then-at-bytes in
-    reading.refuses_more _ _ _ _ loop.invariant _ code_at.ensures _ fault-of.ensures if1.false _ _
-    after-code.ensures _ is-expiry.ensures if2.true (omega (arith, codes.count args.bytes.now, if3.true)) _ _ _ hand-refusal2.ensures
+    let hand_refusal2 = c.hand_refusal-then-at-bytes in
+    reading.refuses_more _ _ _ _ loop.invariant _ code_at.ensures _ fault_of.ensures if1.false _ _
+    after_code.ensures _ is_expiry.ensures if2.true (omega (arith, codes.count args.bytes.now, if3.true)) _ _ _ hand_refusal2.ensures
 
 pub overflow_cast-out : goal.overflow_cast-out
 overflow_cast-out c =
     let loop = c.loop-at in
     let code_at = c.code_at-c in
-    let fault-of = c.fault_of-number in
+    let fault_of = c.fault_of-number in
     let if1 = c.if-number-ne0 in
-    let after-code = c.after_code-p in
-    let is-expiry = c.is_expiry in
+    let after_code = c.after_code-p in
+    let is_expiry = c.is_expiry in
     let if2 = c.if-is_expiry in
     omega (
       arith,
-      reading.few_after _ _ _ _ loop.invariant _ code_at.ensures _ fault-of.ensures if1.false _ _
-          after-code.ensures _ is-expiry.ensures if2.true,
+      reading.few_after _ _ _ _ loop.invariant _ code_at.ensures _ fault_of.ensures if1.false _ _
+          after_code.ensures _ is_expiry.ensures if2.true,
     )
 
 -- the expiry and no nybble after it
@@ -79,41 +79,41 @@ pub returns-then-is_expiry : goal.returns-then-is_expiry
 returns-then-is_expiry c =
     let loop = c.loop-at in
     let code_at = c.code_at-c in
-    let fault-of = c.fault_of-number in
+    let fault_of = c.fault_of-number in
     let if1 = c.if-number-ne0 in
-    let after-code = c.after_code-p in
-    let is-expiry = c.is_expiry in
+    let after_code = c.after_code-p in
+    let is_expiry = c.is_expiry in
     let if2 = c.if-is_expiry in
     let args = c.args in
     let if3 = c.if-at-bytes in
-    reading.accepts _ _ _ _ loop.invariant _ code_at.ensures _ fault-of.ensures if1.false _ _
-    after-code.ensures _ is-expiry.ensures if2.true (omega (arith, codes.count args.bytes.now, if3.false)) _ c.expiry_at.ensures
+    reading.accepts _ _ _ _ loop.invariant _ code_at.ensures _ fault_of.ensures if1.false _ _
+    after_code.ensures _ is_expiry.ensures if2.true (omega (arith, codes.count args.bytes.now, if3.false)) _ c.expiry_at.ensures
 
 pub loop-at-smaller : goal.loop-at-smaller
 loop-at-smaller c =
     let args = c.args in
     let code_at = c.code_at-c in
     let loop = c.loop-at in
-    let loop-test = c.loop-at-test in
-    omega (arith, codes.count args.bytes.now, code_at.ensures.one, loop.invariant.inside, loop-test.true)
+    let loop_test = c.loop-at-test in
+    omega (arith, codes.count args.bytes.now, code_at.ensures.one, loop.invariant.inside, loop_test.true)
 
 pub loop-at-preserved : goal.loop-at-preserved
 loop-at-preserved c =
     let loop = c.loop-at in
     let code_at = c.code_at-c in
-    let fault-of = c.fault_of-number in
+    let fault_of = c.fault_of-number in
     let if1 = c.if-number-ne0 in
-    let after-code = c.after_code-p in
-    let is-expiry = c.is_expiry in
+    let after_code = c.after_code-p in
+    let is_expiry = c.is_expiry in
     let if2 = c.if-is_expiry in
-    reading.reads_on _ _ _ _ loop.invariant _ code_at.ensures _ fault-of.ensures if1.false _ _
-    after-code.ensures _ is-expiry.ensures if2.false
+    reading.reads_on _ _ _ _ loop.invariant _ code_at.ensures _ fault_of.ensures if1.false _ _
+    after_code.ensures _ is_expiry.ensures if2.false
 
 -- no nybble left
 pub returns : goal.returns
 returns c =
     let loop = c.loop-at in
     let args = c.args in
-    let loop-test = c.loop-at-test in
-    let hand-refusal3 = c.hand_refusal-2 in
-    reading.ends_early_lem _ _ _ _ loop.invariant (omega (arith, codes.count args.bytes.now, loop-test.false)) _ _ _ hand-refusal3.ensures
+    let loop_test = c.loop-at-test in
+    let hand_refusal3 = c.hand_refusal-2 in
+    reading.ends_early_lem _ _ _ _ loop.invariant (omega (arith, codes.count args.bytes.now, loop_test.false)) _ _ _ hand_refusal3.ensures

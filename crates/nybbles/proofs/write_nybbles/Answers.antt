@@ -41,7 +41,7 @@ returns c =
     let spell = c.spell-n in
     let nybble_count = c.nybble_count-count in
     let if2 = c.if-out-count in
-    let put-codes = c.put_codes in
+    let put_codes = c.put_codes in
     let can = answers.writable _ (sym unwritable.ensures ∙ if1.false) in
     answers.taken _ _ _ can.0 can.1 _ (packed.bytes_counted _ _ _ spell.ensures _ nybble_count.ensures) if2.false _
-    (packed.bytes_put _ _ _ spell.ensures _ _ put-codes.ensures)
+    (packed.bytes_put _ _ _ spell.ensures _ _ put_codes.ensures)

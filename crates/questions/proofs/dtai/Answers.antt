@@ -8,9 +8,9 @@ use Rattle.questions.proofs.dtai.Goals as goal
 pub returns : goal.returns
 returns c =
     let args = c.args in
-    let dtai-on = c.dtai_on in
-    let day-in = c.day_in in
-    let expiry-of = c.expiry_of in
-    let day-before = c.day_before-last in
+    let dtai_on = c.dtai_on in
+    let day_in = c.day_in in
+    let expiry_of = c.expiry_of in
+    let day_before = c.day_before-last in
     let words = args.words.now in
-    dtai-on.ensures ∙ ap dtai_answer (dtai_said_lem (day-in.ensures (λ w. last_meant words w expiry-of.ensures day-before.ensures)))
+    dtai_on.ensures ∙ ap dtai_answer (dtai_said_lem (day_in.ensures (λ w. last_meant words w expiry_of.ensures day_before.ensures)))

@@ -8,6 +8,6 @@ use Rattle.replay.proofs.put_refused.Goals as goal
 pub returns : goal.returns
 unfolding shown
 returns c =
-    let put-refusal = c.put_refusal-next in
+    let put_refusal = c.put_refusal-next in
     let put = c.put in
-    up_to put-refusal.ensures (a_byte put.ensures) refl (omega arith)
+    up_to put_refusal.ensures (a_byte put.ensures) refl (omega arith)

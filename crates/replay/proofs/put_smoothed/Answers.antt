@@ -5,10 +5,10 @@ use Rattle.replay.proofs.put_smoothed.Goals as goal
 
 pub returns-in-Given : goal.returns-in-Given
 returns-in-Given c =
-    let put-time = c.put_time in
-    few put-time.ensures (rw c.in-Given.is) (omega arith)
+    let put_time = c.put_time in
+    few put_time.ensures (rw c.in-Given.is) (omega arith)
 
 pub returns-in-Refused : goal.returns-in-Refused
 returns-in-Refused c =
-    let Put-refused = c.put_refused in
-    few Put-refused.ensures (rw c.in-Refused.is) (omega arith)
+    let put_refused = c.put_refused in
+    few put_refused.ensures (rw c.in-Refused.is) (omega arith)

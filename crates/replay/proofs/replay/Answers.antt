@@ -21,14 +21,14 @@ shape_of-out-then-end-trace c =
 pub returns-then-end-trace : goal.returns-then-end-trace
 returns-then-end-trace c =
     let loop = c.loop-out in
-    let part-end = c.part_end-end in
+    let part_end = c.part_end-end in
     let if1 = c.if-end-trace in
-    last replaying loop.invariant part-end.ensures if1.true
+    last replaying loop.invariant part_end.ensures if1.true
 
 pub slice_bounds-replay_line-count : goal.slice_bounds-replay_line-count
 slice_bounds-replay_line-count c =
-    let part-end = c.part_end-end in
-    omega (arith, part-end.ensures)
+    let part_end = c.part_end-end in
+    omega (arith, part_end.ensures)
 
 pub slice_bounds-replay_line-start : goal.slice_bounds-replay_line-start
 slice_bounds-replay_line-start c =
@@ -37,32 +37,32 @@ slice_bounds-replay_line-start c =
 
 pub slice_bounds-replay_line-end : goal.slice_bounds-replay_line-end
 slice_bounds-replay_line-end c =
-    let part-end = c.part_end-end in
+    let part_end = c.part_end-end in
     let loop = c.loop-out in
-    omega (arith, part-end.ensures, end_inside replaying loop.invariant part-end.ensures)
+    omega (arith, part_end.ensures, end_inside replaying loop.invariant part_end.ensures)
 
 pub overflow_add-used : goal.overflow_add-used
 overflow_add-used c =
     let loop = c.loop-out in
-    let part-end = c.part_end-end in
+    let part_end = c.part_end-end in
     let if1 = c.if-end-trace in
-    let inside = before_end replaying loop.invariant part-end.ensures if1.false in search rules
+    let inside = before_end replaying loop.invariant part_end.ensures if1.false in search rules
 
 pub loop-out-smaller : goal.loop-out-smaller
 loop-out-smaller c =
-    let part-end = c.part_end-end in
+    let part_end = c.part_end-end in
     let loop = c.loop-out in
     let if1 = c.if-end-trace in
-    omega (arith, part-end.ensures, before_end replaying loop.invariant part-end.ensures if1.false)
+    omega (arith, part_end.ensures, before_end replaying loop.invariant part_end.ensures if1.false)
 
 pub loop-out-preserved : goal.loop-out-preserved
 loop-out-preserved c =
     let loop = c.loop-out in
-    let part-end = c.part_end-end in
+    let part_end = c.part_end-end in
     let if1 = c.if-end-trace in
-    let loop-test = c.loop-out-test in
-    let replay-line = c.replay_line-written in
-    step replaying loop.invariant part-end.ensures if1.false loop-test.true replay-line.ensures.puts replay-line.ensures.state
+    let loop_test = c.loop-out-test in
+    let replay_line = c.replay_line-written in
+    step replaying loop.invariant part_end.ensures if1.false loop_test.true replay_line.ensures.puts replay_line.ensures.state
 
 pub shape_of-out : goal.shape_of-out
 shape_of-out c =
@@ -72,5 +72,5 @@ shape_of-out c =
 pub returns : goal.returns
 returns c =
     let loop = c.loop-out in
-    let loop-test = c.loop-out-test in
-    full replaying loop.invariant loop-test.false
+    let loop_test = c.loop-out-test in
+    full replaying loop.invariant loop_test.false

@@ -21,5 +21,5 @@ returns c =
     let args = c.args in
     let if1 = c.if-left-eq0 in
     let if2 = c.if-out-lt-NO_LINE_BYTES in
-    let Put-refused = c.put_refused-count in
-    end_some args.left.now if1.false (omega (arith, if2.false)) Put-refused.ensures
+    let put_refused = c.put_refused-count in
+    end_some args.left.now if1.false (omega (arith, if2.false)) put_refused.ensures

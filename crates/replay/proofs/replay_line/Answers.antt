@@ -20,8 +20,8 @@ pub returns-in-Use : goal.returns-in-Use
 returns-in-Use c =
     let args = c.args in
     let meaning = c.meaning-said in
-    let use-list = c.use_list in
-    use_line args.line.now meaning.ensures c.in-Use.is use-list.ensures
+    let use_list = c.use_list in
+    use_line args.line.now meaning.ensures c.in-Use.is use_list.ensures
 
 pub returns-in-Store : goal.returns-in-Store
 returns-in-Store c =
@@ -39,13 +39,13 @@ pub returns-in-Ask : goal.returns-in-Ask
 returns-in-Ask c =
     let args = c.args in
     let meaning = c.meaning-said in
-    let utc-to-uts = c.utc_to_uts in
-    let put-smoothed = c.put_smoothed in
-    ask_line args.line.now meaning.ensures c.in-Ask.is utc-to-uts.ensures put-smoothed.ensures
+    let utc_to_uts = c.utc_to_uts in
+    let put_smoothed = c.put_smoothed in
+    ask_line args.line.now meaning.ensures c.in-Ask.is utc_to_uts.ensures put_smoothed.ensures
 
 pub returns-in-Other : goal.returns-in-Other
 returns-in-Other c =
     let args = c.args in
     let meaning = c.meaning-said in
-    let Put-refused = c.put_refused in
-    other_line args.line.now meaning.ensures c.in-Other.is Put-refused.ensures
+    let put_refused = c.put_refused in
+    other_line args.line.now meaning.ensures c.in-Other.is put_refused.ensures

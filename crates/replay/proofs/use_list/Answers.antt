@@ -4,13 +4,13 @@ use Rattle.replay.proofs.use_list.Goals as goal
 
 pub returns-then-number-ne0 : goal.returns-then-number-ne0
 returns-then-number-ne0 c =
-    let read-text = c.read_text-number in
+    let read_text = c.read_text-number in
     let if1 = c.if-number-ne0 in
-    let Put-refused = c.put_refused in
-    list_refused read-text.ensures if1.true Put-refused.ensures
+    let put_refused = c.put_refused in
+    list_refused read_text.ensures if1.true put_refused.ensures
 
 pub returns : goal.returns
 returns c =
-    let read-text = c.read_text-number in
+    let read_text = c.read_text-number in
     let if1 = c.if-number-ne0 in
-    list_taken read-text.ensures if1.false
+    list_taken read_text.ensures if1.false

@@ -6,6 +6,6 @@ use Rattle.schedule.proofs.expiry_month.Goals as goal
 pub returns : goal.returns
 returns c =
     let wide = c.wide in
-    let latest-month = c.latest_month in
+    let latest_month = c.latest_month in
     let long = c.long in
-    wide.ensures ∙ (latest-month.ensures ∙ ap month_of long.ensures)
+    wide.ensures ∙ (latest_month.ensures ∙ ap month_of long.ensures)

@@ -17,13 +17,13 @@ returns-then-words-gt-END_DAY c =
 
 pub returns-then-leaps_fit : goal.returns-then-leaps_fit
 returns-then-leaps_fit c =
-    let rest-clear = c.rest_clear in
+    let rest_clear = c.rest_clear in
     let if3 = c.if-leaps_fit in
     let args = c.args in
     let if1 = c.if-words-gt256 in
     let if2 = c.if-words-gt-END_DAY in
     let leaps_fit = c.leaps_fit in
-    list_by args.words.now if1.false leaps_fit.result leaps_fit.ensures if3.true if2.false rest-clear.result rest-clear.ensures
+    list_by args.words.now if1.false leaps_fit.result leaps_fit.ensures if3.true if2.false rest_clear.result rest_clear.ensures
 
 pub returns-else-leaps_fit : goal.returns-else-leaps_fit
 returns-else-leaps_fit c =

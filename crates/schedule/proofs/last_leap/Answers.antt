@@ -17,11 +17,11 @@ returns-then-n-eq0 c =
 pub returns : goal.returns
 returns c =
     let count_of = c.count_of-n in
-    let month-at = c.month_at in
+    let month_at = c.month_at in
     let args = c.args in
     let pre = c.requires in
     let if1 = c.if-n-eq0 in
     let n = count_of.result in
-    month-at.ensures
+    month_at.ensures
     ∙ (ap (λ (l : Leap). l.month) (sym (leap_at_lem args.words.now pre (n - 1)))
     ∙ sym (last_some (meant args.words.now) n (count_of.ensures ∙ sym (count_is args.words.now pre)) (n - 1) (omega (arith, if1.false))))

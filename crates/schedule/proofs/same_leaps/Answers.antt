@@ -24,25 +24,25 @@ bounds-b-j c = omega (arith, c.requires)
 pub overflow_add-faults : goal.overflow_add-faults
 overflow_add-faults c =
     let loop = c.loop-j in
-    let loop-test = c.loop-j-test in
+    let loop_test = c.loop-j-test in
     let differ = c.differ-faults in
     let pre = c.requires in
-    omega (arith, loop.invariant.1.few, loop-test.true, differ.ensures.1, pre)
+    omega (arith, loop.invariant.1.few, loop_test.true, differ.ensures.1, pre)
 
 pub loop-j-smaller : goal.loop-j-smaller
 loop-j-smaller c = omega arith
 
 pub loop-j-preserved : goal.loop-j-preserved
 loop-j-preserved c =
-    let loop-test = c.loop-j-test in
+    let loop_test = c.loop-j-test in
     let loop = c.loop-j in
     let differ = c.differ-faults in
-    (omega (arith, loop-test.true), differing_one loop.invariant.1 differ.result differ.ensures)
+    (omega (arith, loop_test.true), differing_one loop.invariant.1 differ.result differ.ensures)
 
 pub returns : goal.returns
 returns c =
     let loop = c.loop-j in
     let args = c.args in
-    let loop-test = c.loop-j-test in
-    let end : loop.j ≡ 2 * args.n = omega (arith, loop.invariant.0, loop-test.false) in
+    let loop_test = c.loop-j-test in
+    let end : loop.j ≡ 2 * args.n = omega (arith, loop.invariant.0, loop_test.false) in
     differing_tells args.a.now args.b.now args.n loop.faults (rw end at loop.invariant.1)

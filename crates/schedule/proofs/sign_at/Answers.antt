@@ -13,7 +13,7 @@ returns-then-i-ge-MAX_LEAPS c =
 
 pub returns : goal.returns
 returns c =
-    let sign-of2 = c.sign_of-2 in
+    let sign_of2 = c.sign_of-2 in
     let args = c.args in
     let if1 = c.if-i-ge-MAX_LEAPS in
-    sign-of2.ensures ∙ ap sign_of (sym (sign_in_place args.words.now args.i (omega (arith, if1.false))))
+    sign_of2.ensures ∙ ap sign_of (sym (sign_in_place args.words.now args.i (omega (arith, if1.false))))

@@ -8,34 +8,34 @@ use Rattle.schedule.proofs.unwritable.Goals as goal
 pub returns-then-not-is_list : goal.returns-then-not-is_list
 returns-then-not-is_list c =
     let args = c.args in
-    let is-list = c.is_list in
+    let is_list = c.is_list in
     let if1 = c.if-not-is_list in
-    sym (not_formed (meant args.words.now) (sym is-list.ensures ∙ if1.true))
+    sym (not_formed (meant args.words.now) (sym is_list.ensures ∙ if1.true))
 
 pub last_leap-requires : goal.last_leap-requires
 last_leap-requires c =
-    let is-list = c.is_list in
+    let is_list = c.is_list in
     let if1 = c.if-not-is_list in
-    sym is-list.ensures ∙ if1.false
+    sym is_list.ensures ∙ if1.false
 
 pub returns-then-last_leap-expiry_month : goal.returns-then-last_leap-expiry_month
 returns-then-last_leap-expiry_month c =
-    let is-list = c.is_list in
+    let is_list = c.is_list in
     let if1 = c.if-not-is_list in
     let args = c.args in
-    let last-leap = c.last_leap in
-    let expiry-month = c.expiry_month in
+    let last_leap = c.last_leap in
+    let expiry_month = c.expiry_month in
     let if2 = c.if-last_leap-expiry_month in
-    let yes = sym is-list.ensures ∙ if1.false in
-    sym (has_gap (meant args.words.now) yes last-leap.ensures expiry-month.ensures (expiry_is args.words.now yes) if2.true)
+    let yes = sym is_list.ensures ∙ if1.false in
+    sym (has_gap (meant args.words.now) yes last_leap.ensures expiry_month.ensures (expiry_is args.words.now yes) if2.true)
 
 pub returns : goal.returns
 returns c =
-    let is-list = c.is_list in
+    let is_list = c.is_list in
     let if1 = c.if-not-is_list in
     let args = c.args in
-    let last-leap = c.last_leap in
-    let expiry-month = c.expiry_month in
+    let last_leap = c.last_leap in
+    let expiry_month = c.expiry_month in
     let if2 = c.if-last_leap-expiry_month in
-    let yes = sym is-list.ensures ∙ if1.false in
-    sym (without_gap (meant args.words.now) yes last-leap.ensures expiry-month.ensures (expiry_is args.words.now yes) if2.false)
+    let yes = sym is_list.ensures ∙ if1.false in
+    sym (without_gap (meant args.words.now) yes last_leap.ensures expiry_month.ensures (expiry_is args.words.now yes) if2.false)

@@ -9,16 +9,16 @@ use Rattle.show.specs.Show.{date_of}
 use Rattle.show.proofs.put_day.Goals as goal
 
 -- the start of the month that the code finds
-the-start : (day : ℕ) {month start : ℕ} → month ≡ month_of day → start ≡ month_start (min month last_month) → start ≡ month_start (month_of day)
-the-start day e f = f ∙ (ap (λ (m : ℕ). month_start (min m last_month)) e ∙ start_min (month_most day))
+the_start : (day : ℕ) {month start : ℕ} → month ≡ month_of day → start ≡ month_start (min month last_month) → start ≡ month_start (month_of day)
+the_start day e f = f ∙ (ap (λ (m : ℕ). month_start (min m last_month)) e ∙ start_min (month_most day))
 
 pub overflow_sub-day : goal.overflow_sub-day
 overflow_sub-day c =
     let args = c.args in
-    let latest-month = c.latest_month-month in
-    let first-day = c.first_day in
+    let latest_month = c.latest_month-month in
+    let first_day = c.first_day in
     let pre = c.requires in
-    let start = the-start args.day latest-month.ensures first-day.ensures in
+    let start = the_start args.day latest_month.ensures first_day.ensures in
     omega (arith, start, month_started args.day pre.0)
 
 pub shape_of-out : goal.shape_of-out
@@ -28,8 +28,8 @@ pub returns : goal.returns
 unfolding date_of
 returns c =
     let args = c.args in
-    let latest-month = c.latest_month-month in
-    let first-day = c.first_day in
-    let put-date = c.put_date in
-    let start = the-start args.day latest-month.ensures first-day.ensures in
-    rw (← start, ← latest-month.ensures) put-date.ensures
+    let latest_month = c.latest_month-month in
+    let first_day = c.first_day in
+    let put_date = c.put_date in
+    let start = the_start args.day latest_month.ensures first_day.ensures in
+    rw (← start, ← latest_month.ensures) put_date.ensures

@@ -9,21 +9,21 @@ use Rattle.show.proofs.put_shown.Goals as goal
 pub returns-then-not-is_list : goal.returns-then-not-is_list
 unfolding shown
 returns-then-not-is_list c =
-    let put-refusal = c.put_refusal in
-    let is-list = c.is_list in
+    let put_refusal = c.put_refusal in
+    let is_list = c.is_list in
     let if1 = c.if-not-is_list in
-    few put-refusal.ensures (rw (failed is-list.ensures if1.true)) (omega arith)
+    few put_refusal.ensures (rw (failed is_list.ensures if1.true)) (omega arith)
 
 pub put_stretches-requires : goal.put_stretches-requires
 put_stretches-requires c =
-    let is-list = c.is_list in
+    let is_list = c.is_list in
     let if1 = c.if-not-is_list in
-    passed is-list.ensures if1.false
+    passed is_list.ensures if1.false
 
 pub returns : goal.returns
 unfolding shown shown_from
 returns c =
-    let put-stretches = c.put_stretches in
-    let is-list = c.is_list in
+    let put_stretches = c.put_stretches in
+    let is_list = c.is_list in
     let if1 = c.if-not-is_list in
-    few put-stretches.ensures (rw (passed is-list.ensures if1.false)) (omega arith)
+    few put_stretches.ensures (rw (passed is_list.ensures if1.false)) (omega arith)

@@ -27,14 +27,14 @@ pub returns : goal.returns
 unfolding stretch
 returns c =
     let put2 = c.put-d in
-    let put-with-sign = c.put_with_sign in
-    let put-day2 = c.put_day-c in
+    let put_with_sign = c.put_with_sign in
+    let put_day2 = c.put_day-c in
     let put = c.put-b in
-    let put-day = c.put_day-a in
-    let dtai-from = c.dtai_from-z in
+    let put_day = c.put_day-a in
+    let dtai_from = c.dtai_from-z in
     let args = c.args in
     let pre = c.requires in
-    let from-sign = up_to {most = 22} (a_byte put2.ensures) put-with-sign.ensures refl (omega arith) in
-    let from_last = up_to {most = 48} put-day2.ensures from-sign refl (omega arith) in
-    let from-space = up_to {most = 49} (a_byte put.ensures) from_last refl (omega arith) in
-    up_to put-day.ensures from-space (rw (dtai-from.ensures, dtai_kept (meant args.words.now) pre.0 _)) (omega arith)
+    let from_sign = up_to {most = 22} (a_byte put2.ensures) put_with_sign.ensures refl (omega arith) in
+    let from_last = up_to {most = 48} put_day2.ensures from_sign refl (omega arith) in
+    let from_space = up_to {most = 49} (a_byte put.ensures) from_last refl (omega arith) in
+    up_to put_day.ensures from_space (rw (dtai_from.ensures, dtai_kept (meant args.words.now) pre.0 _)) (omega arith)

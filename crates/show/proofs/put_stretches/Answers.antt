@@ -17,9 +17,9 @@ in_leaps : (words : List ℕ) → well_formed (meant words) ≡ true → {count 
 in_leaps words w e h = omega (arith, count_is words w)
 
 -- the month that the code finds is the leap's
-by-leap : (words : List ℕ) → well_formed (meant words) ≡ true → (i : ℕ) {month : ℕ} → month ≡ month_word words i
+by_leap : (words : List ℕ) → well_formed (meant words) ≡ true → (i : ℕ) {month : ℕ} → month ≡ month_word words i
     → month_start (min month last_month) ≡ month_start (min (get_or (meant words).leaps i no_leap).month last_month)
-by-leap words w i e = ap (λ (m : ℕ). month_start (min m last_month)) (e ∙ ap (λ (l : Leap). l.month) (sym (leap_at_lem words w i)))
+by_leap words w i e = ap (λ (m : ℕ). month_start (min m last_month)) (e ∙ ap (λ (l : Leap). l.month) (sym (leap_at_lem words w i)))
 
 pub loop-i-init : goal.loop-i-init
 loop-i-init c = begin _ _ _ _ c.requires
@@ -30,18 +30,18 @@ put_stretch-next-requires c =
     let args = c.args in
     let pre = c.requires in
     let count_of = c.count_of-count in
-    let loop-test = c.loop-i-test in
-    let month-start = c.month_start-start in
-    let month-at = c.month_at in
+    let loop_test = c.loop-i-test in
+    let month_start_call = c.month_start-start in
+    let month_at = c.month_at in
     let g = loop.invariant in
-    let h = in_leaps args.words.now pre count_of.ensures loop-test.true in
-    let e = start_of g h (month-start.ensures ∙ by-leap args.words.now pre loop.i month-at.ensures) in
+    let h = in_leaps args.words.now pre count_of.ensures loop_test.true in
+    let e = start_of g h (month_start_call.ensures ∙ by_leap args.words.now pre loop.i month_at.ensures) in
     (g.well, (before_expiry g).0, omega (arith, e, (next_start g h).0), omega (arith, e, (next_start g h).1))
 
 pub loop-i-smaller : goal.loop-i-smaller
 loop-i-smaller c =
-    let loop-test = c.loop-i-test in
-    fewer loop-test.true
+    let loop_test = c.loop-i-test in
+    fewer loop_test.true
 
 pub loop-i-preserved : goal.loop-i-preserved
 loop-i-preserved c =
@@ -49,14 +49,14 @@ loop-i-preserved c =
     let args = c.args in
     let pre = c.requires in
     let count_of = c.count_of-count in
-    let loop-test = c.loop-i-test in
-    let month-start = c.month_start-start in
-    let month-at = c.month_at in
-    let put-stretch = c.put_stretch-next in
-    let put-between = c.put_between-next in
+    let loop_test = c.loop-i-test in
+    let month_start_call = c.month_start-start in
+    let month_at = c.month_at in
+    let put_stretch = c.put_stretch-next in
+    let put_between = c.put_between-next in
     let g = loop.invariant in
-    let h = in_leaps args.words.now pre count_of.ensures loop-test.true in
-    go_on g h _ (start_of g h (month-start.ensures ∙ by-leap args.words.now pre loop.i month-at.ensures)) put-stretch.ensures put-between.ensures
+    let h = in_leaps args.words.now pre count_of.ensures loop_test.true in
+    go_on g h _ (start_of g h (month_start_call.ensures ∙ by_leap args.words.now pre loop.i month_at.ensures)) put_stretch.ensures put_between.ensures
 
 pub put_last-requires : goal.put_last-requires
 put_last-requires c =
@@ -69,9 +69,9 @@ shape_of-out c =
     let args = c.args in
     let pre = c.requires in
     let count_of = c.count_of-count in
-    let loop-test = c.loop-i-test in
+    let loop_test = c.loop-i-test in
     let put_last = c.put_last in
-    same_long (ended loop.invariant (omega (arith, count_is args.words.now pre, count_of.ensures, loop-test.false)) put_last.ensures).puts
+    same_long (ended loop.invariant (omega (arith, count_is args.words.now pre, count_of.ensures, loop_test.false)) put_last.ensures).puts
 
 pub returns : goal.returns
 returns c =
@@ -79,6 +79,6 @@ returns c =
     let args = c.args in
     let pre = c.requires in
     let count_of = c.count_of-count in
-    let loop-test = c.loop-i-test in
+    let loop_test = c.loop-i-test in
     let put_last = c.put_last in
-    ended loop.invariant (omega (arith, count_is args.words.now pre, count_of.ensures, loop-test.false)) put_last.ensures
+    ended loop.invariant (omega (arith, count_is args.words.now pre, count_of.ensures, loop_test.false)) put_last.ensures

@@ -6,8 +6,8 @@ use lib.ListN.{length, length-set}
 use Rattle.text.proofs.Digits as digits
 use Rattle.text.proofs.put_gap.Goals as goal
 
-add-two : (n : ℕ) → n + 2 ≡ suc (suc n)
-add-two n = omega arith
+add_two : (n : ℕ) → n + 2 ≡ suc (suc n)
+add_two n = omega arith
 
 pub bounds-out-at : goal.bounds-out-at
 bounds-out-at c = omega (arith, ap length (digits.one c.args.gap c.if-gap-lt10.true))
@@ -34,4 +34,4 @@ pub returns-then-gap-lt100 : goal.returns-then-gap-lt100
 returns-then-gap-lt100 c = rw (digits.two c.args.gap c.if-gap-lt10.false c.if-gap-lt100.true) (refl, simp add-one)
 
 pub returns-else-gap-lt100 : goal.returns-else-gap-lt100
-returns-else-gap-lt100 c = rw (digits.three c.args.gap c.if-gap-lt100.false) (refl, simp (add-one, add-two))
+returns-else-gap-lt100 c = rw (digits.three c.args.gap c.if-gap-lt100.false) (refl, simp (add-one, add_two))

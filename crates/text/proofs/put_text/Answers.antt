@@ -23,9 +23,9 @@ overflow_sub-month c =
     let pre = c.requires in
     let count_of = c.count_of-count in
     let loop = c.loop-i in
-    let loop-test = c.loop-i-test in
-    let month-at = c.month_at-month in
-    (steps.gap_sure args.words.now pre.0.0 count_of.ensures pre.0.1 _ _ _ loop.invariant.1.standing loop-test.true _ month-at.ensures).0
+    let loop_test = c.loop-i-test in
+    let month_at = c.month_at-month in
+    (steps.gap_sure args.words.now pre.0.0 count_of.ensures pre.0.1 _ _ _ loop.invariant.1.standing loop_test.true _ month_at.ensures).0
 
 pub put_mark-at-requires : goal.put_mark-at-requires
 put_mark-at-requires c =
@@ -33,10 +33,10 @@ put_mark-at-requires c =
     let pre = c.requires in
     let count_of = c.count_of-count in
     let loop = c.loop-i in
-    let loop-test = c.loop-i-test in
-    let month-at = c.month_at-month in (
-      (steps.gap_sure args.words.now pre.0.0 count_of.ensures pre.0.1 _ _ _ loop.invariant.1.standing loop-test.true _ month-at.ensures).1,
-      steps.next_room args.words.now pre.0.0 count_of.ensures pre.0.1 _ _ _ loop.invariant.1.standing loop-test.true _ month-at.ensures _ _
+    let loop_test = c.loop-i-test in
+    let month_at = c.month_at-month in (
+      (steps.gap_sure args.words.now pre.0.0 count_of.ensures pre.0.1 _ _ _ loop.invariant.1.standing loop_test.true _ month_at.ensures).1,
+      steps.next_room args.words.now pre.0.0 count_of.ensures pre.0.1 _ _ _ loop.invariant.1.standing loop_test.true _ month_at.ensures _ _
           (omega (arith, loop.invariant.1.same, pre.1)),
     )
 
@@ -46,14 +46,14 @@ loop-i-preserved c =
     let pre = c.requires in
     let count_of = c.count_of-count in
     let loop = c.loop-i in
-    let loop-test = c.loop-i-test in
-    let month-at = c.month_at-month in
+    let loop_test = c.loop-i-test in
+    let month_at = c.month_at-month in
     let sign_byte_lem = c.sign_byte in
     let sign_at = c.sign_at-sign in
-    let put-mark = c.put_mark-at in (
+    let put_mark = c.put_mark-at in (
       search rules,
-      steps.next_storing args.words.now pre.0.0 count_of.ensures pre.0.1 _ _ _ _ _ loop.invariant.1 loop-test.true _ month-at.ensures _
-          (sign_byte_lem.ensures ∙ ap sign_byte sign_at.ensures) _ _ put-mark.ensures,
+      steps.next_storing args.words.now pre.0.0 count_of.ensures pre.0.1 _ _ _ _ _ loop.invariant.1 loop_test.true _ month_at.ensures _
+          (sign_byte_lem.ensures ∙ ap sign_byte sign_at.ensures) _ _ put_mark.ensures,
     )
 
 pub overflow_sub-end : goal.overflow_sub-end
@@ -62,8 +62,8 @@ overflow_sub-end c =
     let pre = c.requires in
     let count_of = c.count_of-count in
     let loop = c.loop-i in
-    let loop-test = c.loop-i-test in
-    (steps.end_sure args.words.now pre.0.0 count_of.ensures pre.0.1 _ _ _ loop.invariant.1.standing loop-test.false).0
+    let loop_test = c.loop-i-test in
+    (steps.end_sure args.words.now pre.0.0 count_of.ensures pre.0.1 _ _ _ loop.invariant.1.standing loop_test.false).0
 
 pub put_mark-requires : goal.put_mark-requires
 put_mark-requires c =
@@ -71,11 +71,11 @@ put_mark-requires c =
     let pre = c.requires in
     let count_of = c.count_of-count in
     let loop = c.loop-i in
-    let loop-test = c.loop-i-test in (
-      (steps.end_sure args.words.now pre.0.0 count_of.ensures pre.0.1 _ _ _ loop.invariant.1.standing loop-test.false).1,
+    let loop_test = c.loop-i-test in (
+      (steps.end_sure args.words.now pre.0.0 count_of.ensures pre.0.1 _ _ _ loop.invariant.1.standing loop_test.false).1,
       omega (
         arith,
-        steps.end_length args.words.now pre.0.0 count_of.ensures pre.0.1 _ _ _ loop.invariant.1.standing loop-test.false,
+        steps.end_length args.words.now pre.0.0 count_of.ensures pre.0.1 _ _ _ loop.invariant.1.standing loop_test.false,
         loop.invariant.1.same,
         pre.1,
       ),
@@ -83,9 +83,9 @@ put_mark-requires c =
 
 pub shape_of-out : goal.shape_of-out
 shape_of-out c =
-    let put-mark2 = c.put_mark in
+    let put_mark2 = c.put_mark in
     let loop = c.loop-i in
-    ap length put-mark2.ensures.1 ∙ length-sets loop.out loop.at (marked _ end_byte) ∙ loop.invariant.1.same
+    ap length put_mark2.ensures.1 ∙ length-sets loop.out loop.at (marked _ end_byte) ∙ loop.invariant.1.same
 
 pub returns : goal.returns
 returns c =
@@ -93,6 +93,6 @@ returns c =
     let pre = c.requires in
     let count_of = c.count_of-count in
     let loop = c.loop-i in
-    let loop-test = c.loop-i-test in
-    let put-mark2 = c.put_mark in
-    steps.end_storing args.words.now pre.0.0 count_of.ensures pre.0.1 _ _ _ _ _ loop.invariant.1 loop-test.false _ put-mark2.ensures.1
+    let loop_test = c.loop-i-test in
+    let put_mark2 = c.put_mark in
+    steps.end_storing args.words.now pre.0.0 count_of.ensures pre.0.1 _ _ _ _ _ loop.invariant.1 loop_test.false _ put_mark2.ensures.1

@@ -8,12 +8,12 @@ use Rattle.text.proofs.read_text.Goals as goal
 pub returns-in-Taken : goal.returns-in-Taken
 unfolding read_text
 returns-in-Taken c =
-    let read-gap = c.read_gap-end in
-    laws.was_taken _ _ _ c.in-Taken.is (read-gap.ensures blank_schedule so_far_blank)
+    let read_gap = c.read_gap-end in
+    laws.was_taken _ _ _ c.in-Taken.is (read_gap.ensures blank_schedule so_far_blank)
 
 pub returns-in-Refusal : goal.returns-in-Refusal
 unfolding read_text
 returns-in-Refusal c =
-    let read-gap = c.read_gap-end in
-    let hand-refusal = c.hand_refusal in
-    laws.was_refused _ _ _ _ _ c.in-Refusal.is (read-gap.ensures blank_schedule so_far_blank) _ _ _ hand-refusal.ensures
+    let read_gap = c.read_gap-end in
+    let hand_refusal = c.hand_refusal in
+    laws.was_refused _ _ _ _ _ c.in-Refusal.is (read_gap.ensures blank_schedule so_far_blank) _ _ _ hand_refusal.ensures

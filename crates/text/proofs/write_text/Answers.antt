@@ -23,37 +23,37 @@ pub text_len-n-requires : goal.text_len-n-requires
 text_len-n-requires c =
     let unwritable = c.unwritable-number in
     let if1 = c.if-number-ne0 in
-    let expiry-month = c.expiry_month-end in
+    let expiry_month = c.expiry_month-end in
     let args = c.args in
     let u = sym unwritable.ensures ∙ if1.false in
-    (u, expiry-month.ensures ∙ ap month_of (sym (expiry_is args.words.now (answers.writable _ u).0)))
+    (u, expiry_month.ensures ∙ ap month_of (sym (expiry_is args.words.now (answers.writable _ u).0)))
 
 pub returns-then-out-n : goal.returns-then-out-n
 returns-then-out-n c =
     let unwritable = c.unwritable-number in
     let if1 = c.if-number-ne0 in
-    let text-len = c.text_len-n in
+    let text_len = c.text_len-n in
     let if2 = c.if-out-n in
     let w = answers.writable _ (sym unwritable.ensures ∙ if1.false) in
-    answers.short _ _ _ w.0 w.1 _ text-len.ensures if2.true
+    answers.short _ _ _ w.0 w.1 _ text_len.ensures if2.true
 
 pub put_text-requires : goal.put_text-requires
 put_text-requires c =
     let unwritable = c.unwritable-number in
     let if1 = c.if-number-ne0 in
-    let expiry-month = c.expiry_month-end in
+    let expiry_month = c.expiry_month-end in
     let args = c.args in
-    let text-len = c.text_len-n in
+    let text_len = c.text_len-n in
     let if2 = c.if-out-n in
     let u = sym unwritable.ensures ∙ if1.false in
-    ((u, expiry-month.ensures ∙ ap month_of (sym (expiry_is args.words.now (answers.writable _ u).0))), omega (arith, text-len.ensures, if2.false))
+    ((u, expiry_month.ensures ∙ ap month_of (sym (expiry_is args.words.now (answers.writable _ u).0))), omega (arith, text_len.ensures, if2.false))
 
 pub returns : goal.returns
 returns c =
     let unwritable = c.unwritable-number in
     let if1 = c.if-number-ne0 in
-    let text-len = c.text_len-n in
+    let text_len = c.text_len-n in
     let if2 = c.if-out-n in
-    let put-text = c.put_text in
+    let put_text = c.put_text in
     let w = answers.writable _ (sym unwritable.ensures ∙ if1.false) in
-    answers.taken _ _ _ w.0 w.1 _ text-len.ensures if2.false _ put-text.ensures
+    answers.taken _ _ _ w.0 w.1 _ text_len.ensures if2.false _ put_text.ensures

@@ -8,21 +8,21 @@ use Rattle.answers.proofs.lists.put_list_nybbles.Goals as goal
 
 pub returns-then-number-ne0 : goal.returns-then-number-ne0
 returns-then-number-ne0 c =
-    let put-refusal-at = c.put_refusal_at in
-    let read-list = c.read_list-number in
+    let put_refusal_at = c.put_refusal_at in
+    let read_list = c.read_list-number in
     let if1 = c.if-number-ne0 in
-    few put-refusal-at.ensures (read_refused (read_formed _) read-list.ensures refusal_at _ if1.true) (omega arith)
+    few put_refusal_at.ensures (read_refused (read_formed _) read_list.ensures refusal_at _ if1.true) (omega arith)
 
 -- what is accepted is well formed
 pub put_nybbles-requires : goal.put_nybbles-requires
 put_nybbles-requires c =
-    let read-list = c.read_list-number in
+    let read_list = c.read_list-number in
     let if1 = c.if-number-ne0 in
-    (read_well (read_formed _) read-list.ensures if1.false, read_leaves_gap (read_formed _) read-list.ensures if1.false)
+    (read_well (read_formed _) read_list.ensures if1.false, read_leaves_gap (read_formed _) read_list.ensures if1.false)
 
 pub returns : goal.returns
 returns c =
-    let put-nybbles = c.put_nybbles in
-    let read-list = c.read_list-number in
+    let put_nybbles = c.put_nybbles in
+    let read_list = c.read_list-number in
     let if1 = c.if-number-ne0 in
-    few put-nybbles.ensures (read_taken (read_formed _) read-list.ensures refusal_at _ if1.false) (omega arith)
+    few put_nybbles.ensures (read_taken (read_formed _) read_list.ensures refusal_at _ if1.false) (omega arith)

@@ -21,25 +21,25 @@ pub slice_bounds-bytes-end : goal.slice_bounds-bytes-end
 slice_bounds-bytes-end c =
     let args = c.args in
     let pre = c.requires in
-    let write-nybbles = c.write_nybbles-w in
+    let write_nybbles = c.write_nybbles-w in
     let s = meant args.words.now in
-    inside s (nybbles_of s) lent pre.0 pre.1 (at_most s pre.0 pre.1) write-nybbles.ensures.0 write-nybbles.ensures.1
+    inside s (nybbles_of s) lent pre.0 pre.1 (at_most s pre.0 pre.1) write_nybbles.ensures.0 write_nybbles.ensures.1
 
 pub slice_bounds-put_hex-end : goal.slice_bounds-put_hex-end
 slice_bounds-put_hex-end c =
     let args = c.args in
     let pre = c.requires in
-    let write-nybbles = c.write_nybbles-w in
+    let write_nybbles = c.write_nybbles-w in
     let s = meant args.words.now in
-    all_held s (nybbles_of s) lent pre.0 pre.1 (at_most s pre.0 pre.1) write-nybbles.ensures.0 write-nybbles.ensures.1
+    all_held s (nybbles_of s) lent pre.0 pre.1 (at_most s pre.0 pre.1) write_nybbles.ensures.0 write_nybbles.ensures.1
 
 pub returns : goal.returns
 returns c =
     let args = c.args in
     let pre = c.requires in
-    let write-nybbles = c.write_nybbles-w in
-    let put-hex = c.put_hex in
+    let write_nybbles = c.write_nybbles-w in
+    let put_hex = c.put_hex in
     let s = meant args.words.now in
     let room = at_most s pre.0 pre.1 in
-    let e = holds s (nybbles_of s) lent pre.0 pre.1 room write-nybbles.ensures.0 write-nybbles.ensures.1 in
-    text_put put-hex.ensures (ap hex (sym e)) (rw e (omega (arith, hex_length (nybbles_of s))))
+    let e = holds s (nybbles_of s) lent pre.0 pre.1 room write_nybbles.ensures.0 write_nybbles.ensures.1 in
+    text_put put_hex.ensures (ap hex (sym e)) (rw e (omega (arith, hex_length (nybbles_of s))))

@@ -5,6 +5,6 @@ use Rattle.answers.proofs.lists.read_list.Goals as goal
 pub returns : goal.returns
 unfolding list_of
 returns c =
-    let list-of = c.list_of in
-    let read-text = c.read_text in
-    rw (← list-of.ensures) read-text.ensures
+    let list_of_call = c.list_of in
+    let read_text = c.read_text in
+    rw (← list_of_call.ensures) read_text.ensures

@@ -5,7 +5,7 @@ use Rattle.answers.proofs.pairs.put_comparison.Goals as goal
 pub returns : goal.returns
 unfolding list_of
 returns c =
-    let list-of = c.list_of-a in
-    let list-of2 = c.list_of-b in
-    let put-compared = c.put_compared in
-    rw (← list-of.ensures, ← list-of2.ensures) put-compared.ensures
+    let list_of_call = c.list_of-a in
+    let list_of2 = c.list_of-b in
+    let put_compared = c.put_compared in
+    rw (← list_of_call.ensures, ← list_of2.ensures) put_compared.ensures

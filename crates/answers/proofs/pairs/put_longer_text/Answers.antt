@@ -7,21 +7,21 @@ use Rattle.answers.proofs.pairs.put_longer_text.Goals as goal
 
 pub returns-in-First : goal.returns-in-First
 returns-in-First c =
-    let choose-text = c.choose_text-chosen in
+    let choose_text = c.choose_text-chosen in
     let put_all_lem = c.put_all in
-    let e = sym choose-text.ensures ∙ c.in-First.is in
+    let e = sym choose_text.ensures ∙ c.in-First.is in
     text_put put_all_lem.ensures (by_first _ _ e) (first_few _ _ e)
 
 pub returns-in-Second : goal.returns-in-Second
 returns-in-Second c =
-    let choose-text = c.choose_text-chosen in
-    let put-all2 = c.put_all-in-Second in
-    let e = sym choose-text.ensures ∙ c.in-Second.is in
-    text_put put-all2.ensures (by_second _ _ e) (second_few _ _ e)
+    let choose_text = c.choose_text-chosen in
+    let put_all2 = c.put_all-in-Second in
+    let e = sym choose_text.ensures ∙ c.in-Second.is in
+    text_put put_all2.ensures (by_second _ _ e) (second_few _ _ e)
 
 pub returns-in-Refused : goal.returns-in-Refused
 returns-in-Refused c =
-    let choose-text = c.choose_text-chosen in
-    let put-refusal = c.put_refusal in
-    let e = sym choose-text.ensures ∙ c.in-Refused.is in
-    few put-refusal.ensures (by_refused _ _ e) (omega arith)
+    let choose_text = c.choose_text-chosen in
+    let put_refusal = c.put_refusal in
+    let e = sym choose_text.ensures ∙ c.in-Refused.is in
+    few put_refusal.ensures (by_refused _ _ e) (omega arith)

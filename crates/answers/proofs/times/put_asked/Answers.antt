@@ -10,15 +10,15 @@ use Rattle.answers.proofs.times.put_asked.Goals as goal
 pub returns-then-number-ne0 : goal.returns-then-number-ne0
 unfolding asked_under
 returns-then-number-ne0 c =
-    let put-refusal-at = c.put_refusal_at in
-    let read-list = c.read_list-number in
+    let put_refusal_at = c.put_refusal_at in
+    let read_list = c.read_list-number in
     let if1 = c.if-number-ne0 in
-    few put-refusal-at.ensures (read_refused (read_formed _) read-list.ensures refusal_at _ if1.true) (omega arith)
+    few put_refusal_at.ensures (read_refused (read_formed _) read_list.ensures refusal_at _ if1.true) (omega arith)
 
 pub returns : goal.returns
 unfolding asked_under
 returns c =
-    let put-asked-of = c.put_asked_of in
-    let read-list = c.read_list-number in
+    let put_asked_of = c.put_asked_of in
+    let read_list = c.read_list-number in
     let if1 = c.if-number-ne0 in
-    few put-asked-of.ensures (read_taken (read_formed _) read-list.ensures refusal_at _ if1.false) (omega arith)
+    few put_asked_of.ensures (read_taken (read_formed _) read_list.ensures refusal_at _ if1.false) (omega arith)

@@ -6,30 +6,30 @@ use Rattle.answers.proofs.times.put_asked_of.Goals as goal
 
 pub returns-in-Dtai : goal.returns-in-Dtai
 returns-in-Dtai c =
-    let put-dtai = c.put_dtai in
+    let put_dtai = c.put_dtai in
     let dtai = c.dtai in
-    few put-dtai.ensures (of_dtai_lem _ c.in-Dtai.is dtai.ensures) (omega arith)
+    few put_dtai.ensures (of_dtai_lem _ c.in-Dtai.is dtai.ensures) (omega arith)
 
 pub returns-in-Tai : goal.returns-in-Tai
 returns-in-Tai c =
-    let put-tai = c.put_tai in
-    let utc-to-tai = c.utc_to_tai in
-    few put-tai.ensures (of_tai_lem _ c.in-Tai.is utc-to-tai.ensures) (omega arith)
+    let put_tai = c.put_tai in
+    let utc_to_tai = c.utc_to_tai in
+    few put_tai.ensures (of_tai_lem _ c.in-Tai.is utc_to_tai.ensures) (omega arith)
 
 pub returns-in-Utc : goal.returns-in-Utc
 returns-in-Utc c =
-    let put-utc = c.put_utc in
-    let tai-to-utc = c.tai_to_utc in
-    few put-utc.ensures (of_utc_lem _ c.in-Utc.is tai-to-utc.ensures) (omega arith)
+    let put_utc = c.put_utc in
+    let tai_to_utc = c.tai_to_utc in
+    few put_utc.ensures (of_utc_lem _ c.in-Utc.is tai_to_utc.ensures) (omega arith)
 
 pub returns-in-Uts : goal.returns-in-Uts
 returns-in-Uts c =
-    let put-uts = c.put_uts in
-    let utc-to-uts = c.utc_to_uts in
-    few put-uts.ensures (of_uts_lem _ c.in-Uts.is utc-to-uts.ensures) (omega arith)
+    let put_uts = c.put_uts in
+    let utc_to_uts = c.utc_to_uts in
+    few put_uts.ensures (of_uts_lem _ c.in-Uts.is utc_to_uts.ensures) (omega arith)
 
 pub returns-in-Unsmooth : goal.returns-in-Unsmooth
 returns-in-Unsmooth c =
-    let put-micros = c.put_micros in
-    let uts-to-utc = c.uts_to_utc in
-    few put-micros.ensures (of_micros_lem _ c.in-Unsmooth.is uts-to-utc.ensures) (omega arith)
+    let put_micros = c.put_micros in
+    let uts_to_utc = c.uts_to_utc in
+    few put_micros.ensures (of_micros_lem _ c.in-Unsmooth.is uts_to_utc.ensures) (omega arith)

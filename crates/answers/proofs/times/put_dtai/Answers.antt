@@ -11,12 +11,12 @@ use Rattle.answers.proofs.times.put_dtai.Goals as goal
 
 pub returns-in-Given : goal.returns-in-Given
 returns-in-Given c =
-    let put-signed = c.put_signed in
+    let put_signed = c.put_signed in
     let z = c.in-Given.z in
     let same : to_z w32 (of_z w32 z) ≡ z = to_z-of_z w32 z (search rules) in
-    few put-signed.ensures (rw c.in-Given.is (sym (ap signed same))) (omega arith)
+    few put_signed.ensures (rw c.in-Given.is (sym (ap signed same))) (omega arith)
 
 pub returns-in-Refused : goal.returns-in-Refused
 returns-in-Refused c =
-    let put-refusal = c.put_refusal in
-    few put-refusal.ensures (rw c.in-Refused.is) (omega arith)
+    let put_refusal = c.put_refusal in
+    few put_refusal.ensures (rw c.in-Refused.is) (omega arith)

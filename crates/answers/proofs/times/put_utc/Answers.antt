@@ -5,10 +5,10 @@ use Rattle.answers.proofs.times.put_utc.Goals as goal
 
 pub returns-in-Given : goal.returns-in-Given
 returns-in-Given c =
-    let put-two-numbers = c.put_two_numbers in
-    few put-two-numbers.ensures (rw c.in-Given.is) (omega arith)
+    let put_two_numbers = c.put_two_numbers in
+    few put_two_numbers.ensures (rw c.in-Given.is) (omega arith)
 
 pub returns-in-Refused : goal.returns-in-Refused
 returns-in-Refused c =
-    let put-refusal = c.put_refusal in
-    few put-refusal.ensures (rw c.in-Refused.is) (omega arith)
+    let put_refusal = c.put_refusal in
+    few put_refusal.ensures (rw c.in-Refused.is) (omega arith)

@@ -18,10 +18,10 @@ loop-i-init c =
 pub returns-then-not-is_digit : goal.returns-then-not-is_digit
 returns-then-not-is_digit c =
     let loop = c.loop-i in
-    let loop-test = c.loop-i-test in
+    let loop_test = c.loop-i-test in
     let is_digit = c.is_digit in
     let if2 = c.if-not-is_digit in
-    sym (loop.invariant.1.1 ∙ digits.no_digit _ _ _ loop-test.true (sym is_digit.ensures ∙ if2.true))
+    sym (loop.invariant.1.1 ∙ digits.no_digit _ _ _ loop_test.true (sym is_digit.ensures ∙ if2.true))
 
 pub digit_of-d-requires : goal.digit_of-d-requires
 digit_of-d-requires c =
@@ -32,34 +32,34 @@ digit_of-d-requires c =
 pub returns-then-n : goal.returns-then-n
 returns-then-n c =
     let loop = c.loop-i in
-    let loop-test = c.loop-i-test in
+    let loop_test = c.loop-i-test in
     let is_digit = c.is_digit in
     let if2 = c.if-not-is_digit in
-    let digit-of = c.digit_of-d in
+    let digit_of = c.digit_of-d in
     let if3 = c.if-n in
-    sym (loop.invariant.1.1 ∙ digits.too_large _ _ _ loop-test.true (sym is_digit.ensures ∙ if2.false) _ digit-of.ensures.0 (omega (arith, if3.true)))
+    sym (loop.invariant.1.1 ∙ digits.too_large _ _ _ loop_test.true (sym is_digit.ensures ∙ if2.false) _ digit_of.ensures.0 (omega (arith, if3.true)))
 
 pub returns-then-d-tens : goal.returns-then-d-tens
 returns-then-d-tens c =
     let loop = c.loop-i in
-    let loop-test = c.loop-i-test in
+    let loop_test = c.loop-i-test in
     let is_digit = c.is_digit in
     let if2 = c.if-not-is_digit in
-    let digit-of = c.digit_of-d in
+    let digit_of = c.digit_of-d in
     let if4 = c.if-d-tens in
-    sym (loop.invariant.1.1 ∙ digits.too_large _ _ _ loop-test.true (sym is_digit.ensures ∙ if2.false) _ digit-of.ensures.0 (omega (arith, if4.true)))
+    sym (loop.invariant.1.1 ∙ digits.too_large _ _ _ loop_test.true (sym is_digit.ensures ∙ if2.false) _ digit_of.ensures.0 (omega (arith, if4.true)))
 
 pub loop-i-preserved : goal.loop-i-preserved
 loop-i-preserved c =
     let loop = c.loop-i in
-    let loop-test = c.loop-i-test in
+    let loop_test = c.loop-i-test in
     let is_digit = c.is_digit in
     let if2 = c.if-not-is_digit in
-    let digit-of = c.digit_of-d in
-    (search rules, (search rules, loop.invariant.1.1 ∙ digits.more _ _ _ loop-test.true (sym is_digit.ensures ∙ if2.false) _ digit-of.ensures.0))
+    let digit_of = c.digit_of-d in
+    (search rules, (search rules, loop.invariant.1.1 ∙ digits.more _ _ _ loop_test.true (sym is_digit.ensures ∙ if2.false) _ digit_of.ensures.0))
 
 pub returns : goal.returns
 returns c =
     let loop = c.loop-i in
-    let loop-test = c.loop-i-test in
-    sym (loop.invariant.1.1 ∙ digits.done _ _ _ loop-test.false loop.invariant.1.0)
+    let loop_test = c.loop-i-test in
+    sym (loop.invariant.1.1 ∙ digits.done _ _ _ loop_test.false loop.invariant.1.0)

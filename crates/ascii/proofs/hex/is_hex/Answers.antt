@@ -10,21 +10,21 @@ loop-i-init c = (search rules, refl)
 pub returns-then-not-is_hex_digit : goal.returns-then-not-is_hex_digit
 returns-then-not-is_hex_digit c =
     let loop = c.loop-i in
-    let loop-test = c.loop-i-test in
-    let is-hex-digit = c.is_hex_digit in
+    let loop_test = c.loop-i-test in
+    let is_hex_digit = c.is_hex_digit in
     let if1 = c.if-not-is_hex_digit in
-    sym (halves.no_digit _ _ loop.invariant.1 loop-test.true (sym is-hex-digit.ensures ∙ if1.true))
+    sym (halves.no_digit _ _ loop.invariant.1 loop_test.true (sym is_hex_digit.ensures ∙ if1.true))
 
 pub loop-i-preserved : goal.loop-i-preserved
 loop-i-preserved c =
     let loop = c.loop-i in
-    let loop-test = c.loop-i-test in
-    let is-hex-digit = c.is_hex_digit in
+    let loop_test = c.loop-i-test in
+    let is_hex_digit = c.is_hex_digit in
     let if1 = c.if-not-is_hex_digit in
-    (search rules, loop.invariant.1 ∙ halves.digits_more _ _ loop-test.true (sym is-hex-digit.ensures ∙ if1.false))
+    (search rules, loop.invariant.1 ∙ halves.digits_more _ _ loop_test.true (sym is_hex_digit.ensures ∙ if1.false))
 
 pub returns : goal.returns
 returns c =
     let loop = c.loop-i in
-    let loop-test = c.loop-i-test in
-    sym (halves.at_end_lem _ _ loop.invariant.1 loop-test.false)
+    let loop_test = c.loop-i-test in
+    sym (halves.at_end_lem _ _ loop.invariant.1 loop_test.false)

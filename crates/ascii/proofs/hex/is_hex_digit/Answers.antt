@@ -12,15 +12,15 @@ pub returns-then-is_low : goal.returns-then-is_low
 returns-then-is_low c =
     let is_digit = c.is_digit in
     let if1 = c.if-is_digit in
-    let is-low = c.is_low in
+    let is_low = c.is_low in
     let if2 = c.if-is_low in
-    simp (sym is_digit.ensures ∙ if1.false, sym is-low.ensures ∙ if2.true)
+    simp (sym is_digit.ensures ∙ if1.false, sym is_low.ensures ∙ if2.true)
 
 pub returns : goal.returns
 returns c =
     let is_digit = c.is_digit in
     let if1 = c.if-is_digit in
-    let is-low = c.is_low in
+    let is_low = c.is_low in
     let if2 = c.if-is_low in
-    let is-high = c.is_high in
-    simp (sym is_digit.ensures ∙ if1.false, sym is-low.ensures ∙ if2.false) is-high.ensures
+    let is_high = c.is_high in
+    simp (sym is_digit.ensures ∙ if1.false, sym is_low.ensures ∙ if2.false) is_high.ensures

@@ -24,47 +24,47 @@ returns-then-is_digit c =
 
 pub overflow_sub-result-then-is_low : goal.overflow_sub-result-then-is_low
 overflow_sub-result-then-is_low c =
-    let is-low = c.is_low in
+    let is_low = c.is_low in
     let if2 = c.if-is_low in
-    (within_is low_a low_f _ (sym is-low.ensures ∙ if2.true)).0
+    (within_is low_a low_f _ (sym is_low.ensures ∙ if2.true)).0
 
 pub returns-then-is_low : goal.returns-then-is_low
 unfolding nybble_of
 returns-then-is_low c =
-    let is-low = c.is_low in
+    let is_low = c.is_low in
     let if2 = c.if-is_low in
     let is_digit = c.is_digit in
     let if1 = c.if-is_digit in
     let args = c.args in
-    let l = sym is-low.ensures ∙ if2.true in
+    let l = sym is_low.ensures ∙ if2.true in
     (simp (sym is_digit.ensures ∙ if1.false, l), omega (arith, within_is low_a low_f args.b l))
 
 pub overflow_sub-result-then-is_high : goal.overflow_sub-result-then-is_high
 overflow_sub-result-then-is_high c =
-    let is-high = c.is_high in
+    let is_high = c.is_high in
     let if3 = c.if-is_high in
-    (within_is high_a high_f _ (sym is-high.ensures ∙ if3.true)).0
+    (within_is high_a high_f _ (sym is_high.ensures ∙ if3.true)).0
 
 pub returns-then-is_high : goal.returns-then-is_high
 unfolding nybble_of
 returns-then-is_high c =
-    let is-high = c.is_high in
+    let is_high = c.is_high in
     let if3 = c.if-is_high in
     let is_digit = c.is_digit in
     let if1 = c.if-is_digit in
-    let is-low = c.is_low in
+    let is_low = c.is_low in
     let if2 = c.if-is_low in
     let args = c.args in
-    let l = sym is-high.ensures ∙ if3.true in
-    (simp (sym is_digit.ensures ∙ if1.false, sym is-low.ensures ∙ if2.false, l), omega (arith, within_is high_a high_f args.b l))
+    let l = sym is_high.ensures ∙ if3.true in
+    (simp (sym is_digit.ensures ∙ if1.false, sym is_low.ensures ∙ if2.false, l), omega (arith, within_is high_a high_f args.b l))
 
 pub returns : goal.returns
 unfolding nybble_of
 returns c =
     let is_digit = c.is_digit in
     let if1 = c.if-is_digit in
-    let is-low = c.is_low in
+    let is_low = c.is_low in
     let if2 = c.if-is_low in
-    let is-high = c.is_high in
+    let is_high = c.is_high in
     let if3 = c.if-is_high in
-    (simp (sym is_digit.ensures ∙ if1.false, sym is-low.ensures ∙ if2.false, sym is-high.ensures ∙ if3.false), search rules)
+    (simp (sym is_digit.ensures ∙ if1.false, sym is_low.ensures ∙ if2.false, sym is_high.ensures ∙ if3.false), search rules)

@@ -10,9 +10,9 @@ loop-i-init c = (search rules, start _ _ _)
 
 pub hex_digit-requires : goal.hex_digit-requires
 hex_digit-requires c =
-    let shared-slice-known = c.shared_slice_known-1 in
+    let shared_slice_known = c.shared_slice_known-1 in
     let loop = c.loop-i in
-    omega (arith, shared-slice-known.given loop.i)
+    omega (arith, shared_slice_known.given loop.i)
 
 pub loop-i-preserved : goal.loop-i-preserved
 loop-i-preserved c =
@@ -20,9 +20,9 @@ loop-i-preserved c =
     let put = c.put-next in
     let hex_digit_lem = c.hex_digit in
     let put2 = c.put-next-in-loop-i in
-    let hex-digit2 = c.hex_digit-in-loop-i in
-    let loop-test = c.loop-i-test in
-    (search rules, step loop.invariant.1 (two_bytes put.ensures hex_digit_lem.ensures put2.ensures hex-digit2.ensures) (halves.hex_more _ _ loop-test.true))
+    let hex_digit2 = c.hex_digit-in-loop-i in
+    let loop_test = c.loop-i-test in
+    (search rules, step loop.invariant.1 (two_bytes put.ensures hex_digit_lem.ensures put2.ensures hex_digit2.ensures) (halves.hex_more _ _ loop_test.true))
 
 pub shape_of-out : goal.shape_of-out
 shape_of-out c =
@@ -32,5 +32,5 @@ shape_of-out c =
 pub returns : goal.returns
 returns c =
     let loop = c.loop-i in
-    let loop-test = c.loop-i-test in
-    end loop.invariant.1 (halves.hex_end _ _ loop-test.false)
+    let loop_test = c.loop-i-test in
+    end loop.invariant.1 (halves.hex_end _ _ loop_test.false)

@@ -13,24 +13,24 @@ loop-i-init c = (search rules, start _ _ _)
 
 pub overflow_mul-high : goal.overflow_mul-high
 overflow_mul-high c =
-    let nybble-of = c.nybble_of-high in
-    omega (arith, nybble-of.ensures.1)
+    let nybble_of = c.nybble_of-high in
+    omega (arith, nybble_of.ensures.1)
 
 pub overflow_add-high : goal.overflow_add-high
 overflow_add-high c =
-    let nybble-of = c.nybble_of-high in
-    let nybble-of2 = c.nybble_of-low in
-    omega (arith, nybble-of.ensures.1, nybble-of2.ensures.1)
+    let nybble_of = c.nybble_of-high in
+    let nybble_of2 = c.nybble_of-low in
+    omega (arith, nybble_of.ensures.1, nybble_of2.ensures.1)
 
 pub loop-i-preserved : goal.loop-i-preserved
 loop-i-preserved c =
     let loop = c.loop-i in
     let args = c.args in
     let put = c.put-next in
-    let nybble-of = c.nybble_of-high in
-    let nybble-of2 = c.nybble_of-low in
+    let nybble_of = c.nybble_of-high in
+    let nybble_of2 = c.nybble_of-low in
     let inside : loop.i + 1 < length args.field.now = omega arith in
-    (search rules, step loop.invariant.1 (put_pair_of put.ensures nybble-of.ensures.0 nybble-of2.ensures.0) (halves.unhex_more _ _ inside))
+    (search rules, step loop.invariant.1 (put_pair_of put.ensures nybble_of.ensures.0 nybble_of2.ensures.0) (halves.unhex_more _ _ inside))
 
 pub shape_of-out : goal.shape_of-out
 shape_of-out c =

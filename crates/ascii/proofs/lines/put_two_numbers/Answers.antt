@@ -6,7 +6,7 @@ use Rattle.ascii.proofs.lines.put_two_numbers.Goals as goal
 
 pub returns : goal.returns
 returns c =
-    let put-decimal = c.put_decimal-a in
+    let put_decimal = c.put_decimal-a in
     let put = c.put-b in
-    let put-decimal2 = c.put_decimal in
-    up_to put-decimal.ensures (up_to {most = 21} (a_byte put.ensures) put-decimal2.ensures refl (omega arith)) refl (omega arith)
+    let put_decimal2 = c.put_decimal in
+    up_to put_decimal.ensures (up_to {most = 21} (a_byte put.ensures) put_decimal2.ensures refl (omega arith)) refl (omega arith)

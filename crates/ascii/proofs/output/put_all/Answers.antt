@@ -12,8 +12,8 @@ pub loop-i-preserved : goal.loop-i-preserved
 loop-i-preserved c =
     let loop = c.loop-i in
     let put = c.put-next in
-    let loop-test = c.loop-i-test in
-    (search rules, step loop.invariant.1 put.ensures (uncons _ _ loop-test.true))
+    let loop_test = c.loop-i-test in
+    (search rules, step loop.invariant.1 put.ensures (uncons _ _ loop_test.true))
 
 pub shape_of-out : goal.shape_of-out
 shape_of-out c =
@@ -23,5 +23,5 @@ shape_of-out c =
 pub returns : goal.returns
 returns c =
     let loop = c.loop-i in
-    let loop-test = c.loop-i-test in
-    end loop.invariant.1 (drop_of_length-le _ loop-test.false)
+    let loop_test = c.loop-i-test in
+    end loop.invariant.1 (drop_of_length-le _ loop_test.false)

@@ -12,21 +12,21 @@ pub returns-then-bytes-i : goal.returns-then-bytes-i
 returns-then-bytes-i c =
     let loop = c.loop-i in
     let args = c.args in
-    let loop-test = c.loop-i-test in
+    let loop_test = c.loop-i-test in
     let if1 = c.if-bytes-i in
-    omega (arith, loop.invariant, splitting.part_stops args.mark args.bytes.now loop.i loop-test.true if1.true)
+    omega (arith, loop.invariant, splitting.part_stops args.mark args.bytes.now loop.i loop_test.true if1.true)
 
 pub loop-i-preserved : goal.loop-i-preserved
 loop-i-preserved c =
     let loop = c.loop-i in
     let args = c.args in
-    let loop-test = c.loop-i-test in
+    let loop_test = c.loop-i-test in
     let if1 = c.if-bytes-i in
-    omega (arith, loop.invariant, splitting.part_more args.mark args.bytes.now loop.i loop-test.true if1.false)
+    omega (arith, loop.invariant, splitting.part_more args.mark args.bytes.now loop.i loop_test.true if1.false)
 
 pub returns : goal.returns
 returns c =
     let loop = c.loop-i in
     let args = c.args in
-    let loop-test = c.loop-i-test in
-    omega (arith, loop.invariant, splitting.part_ends args.mark args.bytes.now loop.i loop-test.false)
+    let loop_test = c.loop-i-test in
+    omega (arith, loop.invariant, splitting.part_ends args.mark args.bytes.now loop.i loop_test.false)

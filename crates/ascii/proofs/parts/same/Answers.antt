@@ -16,19 +16,19 @@ loop-i-init c = (search rules, refl)
 pub returns-then-a-i : goal.returns-then-a-i
 returns-then-a-i c =
     let loop = c.loop-i in
-    let loop-test = c.loop-i-test in
+    let loop_test = c.loop-i-test in
     let if2 = c.if-a-i in
-    sym (loop.invariant.1 ∙ splitting.not_same _ _ _ loop-test.true (omega arith) if2.true)
+    sym (loop.invariant.1 ∙ splitting.not_same _ _ _ loop_test.true (omega arith) if2.true)
 
 pub loop-i-preserved : goal.loop-i-preserved
 loop-i-preserved c =
     let loop = c.loop-i in
-    let loop-test = c.loop-i-test in
+    let loop_test = c.loop-i-test in
     let if2 = c.if-a-i in
-    (search rules, loop.invariant.1 ∙ splitting.same_more _ _ _ loop-test.true (omega arith) if2.false)
+    (search rules, loop.invariant.1 ∙ splitting.same_more _ _ _ loop_test.true (omega arith) if2.false)
 
 pub returns : goal.returns
 returns c =
     let loop = c.loop-i in
-    let loop-test = c.loop-i-test in
-    sym (loop.invariant.1 ∙ splitting.same_end _ _ _ loop-test.false (omega arith))
+    let loop_test = c.loop-i-test in
+    sym (loop.invariant.1 ∙ splitting.same_end _ _ _ loop_test.false (omega arith))

@@ -8,6 +8,6 @@ pub returns : goal.returns
 unfolding refusal
 returns c =
     let put = c.put-next in
-    let put-decimal = c.put_decimal in
+    let put_decimal = c.put_decimal in
     let wide = c.wide in
-    up_to (a_byte put.ensures) put-decimal.ensures (rw wide.ensures) (omega arith)
+    up_to (a_byte put.ensures) put_decimal.ensures (rw wide.ensures) (omega arith)

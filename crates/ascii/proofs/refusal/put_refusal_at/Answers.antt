@@ -8,7 +8,7 @@ use Rattle.ascii.proofs.refusal.put_refusal_at.Goals as goal
 pub returns : goal.returns
 unfolding refusal_at
 returns c =
-    let put-refusal = c.put_refusal-a in
+    let put_refusal = c.put_refusal-a in
     let put = c.put-b in
-    let put-decimal = c.put_decimal in
-    up_to put-refusal.ensures (up_to {most = 21} (a_byte put.ensures) put-decimal.ensures refl (omega arith)) refl (omega arith)
+    let put_decimal = c.put_decimal in
+    up_to put_refusal.ensures (up_to {most = 21} (a_byte put.ensures) put_decimal.ensures refl (omega arith)) refl (omega arith)

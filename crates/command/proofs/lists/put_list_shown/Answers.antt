@@ -8,14 +8,14 @@ use Rattle.command.proofs.lists.put_list_shown.Goals as goal
 
 pub returns-then-number-ne0 : goal.returns-then-number-ne0
 returns-then-number-ne0 c =
-    let put-refusal-at = c.put_refusal_at in
-    let read-list = c.read_list-number in
+    let put_refusal_at = c.put_refusal_at in
+    let read_list = c.read_list-number in
     let if1 = c.if-number-ne0 in
-    few put-refusal-at.ensures (read_refused (read_formed _) read-list.ensures refusal_at _ if1.true) (omega arith)
+    few put_refusal_at.ensures (read_refused (read_formed _) read_list.ensures refusal_at _ if1.true) (omega arith)
 
 pub returns : goal.returns
 returns c =
-    let put-shown = c.put_shown in
-    let read-list = c.read_list-number in
+    let put_shown = c.put_shown in
+    let read_list = c.read_list-number in
     let if1 = c.if-number-ne0 in
-    few put-shown.ensures (read_taken (read_formed _) read-list.ensures refusal_at _ if1.false) (omega arith)
+    few put_shown.ensures (read_taken (read_formed _) read_list.ensures refusal_at _ if1.false) (omega arith)

@@ -18,23 +18,23 @@ pub slice_bounds-bytes-end : goal.slice_bounds-bytes-end
 slice_bounds-bytes-end c =
     let args = c.args in
     let pre = c.requires in
-    let write-text = c.write_text-w in
+    let write_text = c.write_text-w in
     let s = meant args.words.now in
-    inside s (text_of s) lent pre.0 pre.1 (at_most s pre.0) write-text.ensures.0 write-text.ensures.1
+    inside s (text_of s) lent pre.0 pre.1 (at_most s pre.0) write_text.ensures.0 write_text.ensures.1
 
 pub slice_bounds-put_all-end : goal.slice_bounds-put_all-end
 slice_bounds-put_all-end c =
     let args = c.args in
     let pre = c.requires in
-    let write-text = c.write_text-w in
+    let write_text = c.write_text-w in
     let s = meant args.words.now in
-    all_held s (text_of s) lent pre.0 pre.1 (at_most s pre.0) write-text.ensures.0 write-text.ensures.1
+    all_held s (text_of s) lent pre.0 pre.1 (at_most s pre.0) write_text.ensures.0 write_text.ensures.1
 
 pub returns : goal.returns
 returns c =
     let args = c.args in
     let pre = c.requires in
-    let write-text = c.write_text-w in
+    let write_text = c.write_text-w in
     let put_all_lem = c.put_all in
     let s = meant args.words.now in
-    let e = holds s (text_of s) lent pre.0 pre.1 (at_most s pre.0) write-text.ensures.0 write-text.ensures.1 in text_put put_all_lem.ensures (sym e) (rw e (at_most s pre.0))
+    let e = holds s (text_of s) lent pre.0 pre.1 (at_most s pre.0) write_text.ensures.0 write_text.ensures.1 in text_put put_all_lem.ensures (sym e) (rw e (at_most s pre.0))

@@ -12,15 +12,15 @@ pub overflow_sub-expiry : goal.overflow_sub-expiry
 overflow_sub-expiry c =
     let args = c.args in
     let pre = c.requires in
-    let expiry-of = c.expiry_of-expiry in
-    omega (arith, later_day (meant args.words.now) pre, expiry_is args.words.now pre, expiry-of.ensures)
+    let expiry_of = c.expiry_of-expiry in
+    omega (arith, later_day (meant args.words.now) pre, expiry_is args.words.now pre, expiry_of.ensures)
 
 pub returns : goal.returns
 returns c =
     let wide = c.wide in
-    let latest-month = c.latest_month in
-    let expiry-of = c.expiry_of-expiry in
+    let latest_month = c.latest_month in
+    let expiry_of = c.expiry_of-expiry in
     let args = c.args in
     let pre = c.requires in
     wide.ensures
-    ∙ (latest-month.ensures ∙ ap (λ e. month_of (e - 1)) (expiry-of.ensures ∙ sym (expiry_is args.words.now pre)))
+    ∙ (latest_month.ensures ∙ ap (λ e. month_of (e - 1)) (expiry_of.ensures ∙ sym (expiry_is args.words.now pre)))

@@ -21,12 +21,12 @@ returns-then-month-first_month c =
     let sign_byte_lem = c.sign_byte in
     let sign_at = c.sign_at in
     let if2 = c.if-month-first_month in
-    let first-month = c.first_month in
+    let first_month = c.first_month in
     let s = meant args.words.now in
     rw (known_still s pre.0 args.month (omega (arith, pre.1, if1.false)))
     (sign_byte_lem.ensures
     ∙ (ap sign_byte (sign_at.ensures ∙ sign_here args.words.now pre.0 _)
-    ∙ sym (mark_there s args.i args.month (if2.true ∙ first-month.ensures) (omega (arith, pre.2)))))
+    ∙ sym (mark_there s args.i args.month (if2.true ∙ first_month.ensures) (omega (arith, pre.2)))))
 
 pub returns : goal.returns
 returns c =
@@ -34,7 +34,7 @@ returns c =
     let pre = c.requires in
     let if1 = c.if-known-month in
     let if2 = c.if-month-first_month in
-    let first-month = c.first_month in
+    let first_month = c.first_month in
     let s = meant args.words.now in
     rw (known_still s pre.0 args.month (omega (arith, pre.1, if1.false)))
-    (sym (mark_elsewhere s args.i args.month (λ e. if2.false (e ∙ sym first-month.ensures))))
+    (sym (mark_elsewhere s args.i args.month (λ e. if2.false (e ∙ sym first_month.ensures))))

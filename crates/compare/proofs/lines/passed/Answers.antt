@@ -14,12 +14,12 @@ overflow_add-result c =
 
 pub returns-then-first_month-month : goal.returns-then-first_month-month
 returns-then-first_month-month c =
-    let first-month = c.first_month in
+    let first_month = c.first_month in
     let if1 = c.if-first_month-month in
-    rw (eq-eqb _ _ (sym first-month.ensures ∙ if1.true))
+    rw (eq-eqb _ _ (sym first_month.ensures ∙ if1.true))
 
 pub returns : goal.returns
 returns c =
     let if1 = c.if-first_month-month in
-    let first-month = c.first_month in
-    rw (ne_eqb _ _ (λ e. if1.false (first-month.ensures ∙ e)))
+    let first_month = c.first_month in
+    rw (ne_eqb _ _ (λ e. if1.false (first_month.ensures ∙ e)))

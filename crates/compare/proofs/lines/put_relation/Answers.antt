@@ -15,23 +15,23 @@ returns-then-under c =
 pub returns-then-over : goal.returns-then-over
 unfolding relation_by
 returns-then-over c =
-    let put-all2 = c.put_all-then-over in
+    let put_all2 = c.put_all-then-over in
     let if1 = c.if-over in
     let if2 = c.if-under in
-    text_put put-all2.ensures (rw (if1.true, if2.false)) (omega arith)
+    text_put put_all2.ensures (rw (if1.true, if2.false)) (omega arith)
 
 pub returns-then-under-2 : goal.returns-then-under-2
 unfolding relation_by
 returns-then-under-2 c =
-    let put-all3 = c.put_all-then-under-2 in
+    let put_all3 = c.put_all-then-under-2 in
     let if1 = c.if-over in
     let if3 = c.if-under-2 in
-    text_put put-all3.ensures (rw (if1.false, if3.true)) (omega arith)
+    text_put put_all3.ensures (rw (if1.false, if3.true)) (omega arith)
 
 pub returns : goal.returns
 unfolding relation_by
 returns c =
-    let put-all4 = c.put_all-2 in
+    let put_all4 = c.put_all-2 in
     let if1 = c.if-over in
     let if3 = c.if-under-2 in
-    text_put put-all4.ensures (rw (if1.false, if3.false)) (omega arith)
+    text_put put_all4.ensures (rw (if1.false, if3.false)) (omega arith)

@@ -10,27 +10,27 @@ use Rattle.compare.proofs.longer.choose_text.Goals as goal
 pub returns-then-same : goal.returns-then-same
 returns-then-same c =
     let args = c.args in
-    let choose-same = c.choose_same in
+    let choose_same = c.choose_same in
     let same = c.same in
     let if1 = c.if-same in
     let x = args.a.now in
-    choose-same.ensures ∙ ap (λ y. chosen x y) ((same_is x args.b.now).0 (sym same.ensures ∙ if1.true))
+    choose_same.ensures ∙ ap (λ y. chosen x y) ((same_is x args.b.now).0 (sym same.ensures ∙ if1.true))
 
 pub returns-then-number-ne0 : goal.returns-then-number-ne0
 returns-then-number-ne0 c =
-    let read-both = c.read_both-number in
+    let read_both = c.read_both-number in
     let if2 = c.if-number-ne0 in
-    sym (refused _ _ read-both.ensures Refused chosen_of if2.true)
+    sym (refused _ _ read_both.ensures Refused chosen_of if2.true)
 
 pub choose-requires : goal.choose-requires
 choose-requires c =
-    let read-both = c.read_both-number in
+    let read_both = c.read_both-number in
     let if2 = c.if-number-ne0 in
-    formed _ _ read-both.ensures if2.false
+    formed _ _ read_both.ensures if2.false
 
 pub returns : goal.returns
 returns c =
     let choose = c.choose in
-    let read-both = c.read_both-number in
+    let read_both = c.read_both-number in
     let if2 = c.if-number-ne0 in
-    choose.ensures ∙ sym (taken _ _ read-both.ensures if2.false Refused chosen_of)
+    choose.ensures ∙ sym (taken _ _ read_both.ensures if2.false Refused chosen_of)

@@ -39,13 +39,13 @@ pub loop-i-preserved : goal.loop-i-preserved
 loop-i-preserved c =
     let loop = c.loop-i in
     let args = c.args in
-    let loop-test = c.loop-i-test in
-    let reply-to = c.reply_to-r in
-    let h : loop.i < args.n = loop-test.true in
+    let loop_test = c.loop-i-test in
+    let reply_to = c.reply_to-r in
+    let h : loop.i < args.n = loop_test.true in
     let at = each_two (question args.asked) args.days.now args.times.now loop.i (omega arith) (omega arith) in (
       omega arith,
-      filled_one loop.invariant.1 (omega arith) at _ (λ s p. (reply-to.ensures s p).its_number),
-      filled_one loop.invariant.2 (omega arith) at _ (λ s p. (reply-to.ensures s p).its_value),
+      filled_one loop.invariant.1 (omega arith) at _ (λ s p. (reply_to.ensures s p).its_number),
+      filled_one loop.invariant.2 (omega arith) at _ (λ s p. (reply_to.ensures s p).its_value),
     )
 
 pub shape_of-numbers : goal.shape_of-numbers
@@ -57,5 +57,5 @@ shape_of-values c = c.loop-i.invariant.2.size
 pub returns : goal.returns
 returns c s p =
     let loop = c.loop-i in
-    let loop-test = c.loop-i-test in
-    (filled_all loop.invariant.1 loop.invariant.0 loop-test.false s p, filled_all loop.invariant.2 loop.invariant.0 loop-test.false s p)
+    let loop_test = c.loop-i-test in
+    (filled_all loop.invariant.1 loop.invariant.0 loop_test.false s p, filled_all loop.invariant.2 loop.invariant.0 loop_test.false s p)

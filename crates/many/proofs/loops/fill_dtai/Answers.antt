@@ -41,16 +41,16 @@ pub loop-i-preserved : goal.loop-i-preserved
 loop-i-preserved c =
     let loop = c.loop-i in
     let args = c.args in
-    let loop-test = c.loop-i-test in
-    let dtai-value = c.dtai_value in
-    let dtai-on = c.dtai_on-a in
+    let loop_test = c.loop-i-test in
+    let dtai_value_call = c.dtai_value in
+    let dtai_on_call = c.dtai_on-a in
     let found = c.found in
-    let dtai-number = c.dtai_number in
-    let h : loop.i < args.n = loop-test.true in
+    let dtai_number_call = c.dtai_number in
+    let h : loop.i < args.n = loop_test.true in
     let at = each_one dtai_on args.days.now loop.i (omega arith) in
-    let value = dtai-value.ensures.1.kept ∙ dtai-value.ensures.0 in
+    let value = dtai_value_call.ensures.1.kept ∙ dtai_value_call.ensures.0 in
     let told : (s : Schedule) → Prepared s args.prepared.now → HandsValue (pos 0) (dtai_on s (get_or args.days.now loop.i 0)) _ _ =
-    λ s p. hands_value (pos 0) dtai_answer dtai_number dtai_value dtai_told _ dtai-on.result (dtai-on.ensures ∙ ap dtai_answer (dtai_said_lem (found.ensures s p))) _ dtai-number.ensures _ value in (
+    λ s p. hands_value (pos 0) dtai_answer dtai_number dtai_value dtai_told _ dtai_on_call.result (dtai_on_call.ensures ∙ ap dtai_answer (dtai_said_lem (found.ensures s p))) _ dtai_number_call.ensures _ value in (
       omega arith,
       filled_one loop.invariant.1 (omega arith) at _ (λ s p. (told s p).its_number),
       filled_one loop.invariant.2 (omega arith) at _ (λ s p. (told s p).its_value),
@@ -65,5 +65,5 @@ shape_of-dtais c = c.loop-i.invariant.2.size
 pub returns : goal.returns
 returns c s p =
     let loop = c.loop-i in
-    let loop-test = c.loop-i-test in
-    (filled_all loop.invariant.1 loop.invariant.0 loop-test.false s p, filled_all loop.invariant.2 loop.invariant.0 loop-test.false s p)
+    let loop_test = c.loop-i-test in
+    (filled_all loop.invariant.1 loop.invariant.0 loop_test.false s p, filled_all loop.invariant.2 loop.invariant.0 loop_test.false s p)

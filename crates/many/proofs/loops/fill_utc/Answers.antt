@@ -39,14 +39,14 @@ pub loop-i-preserved : goal.loop-i-preserved
 loop-i-preserved c =
     let loop = c.loop-i in
     let args = c.args in
-    let loop-test = c.loop-i-test in
-    let reply-utc = c.reply_utc-r in
-    let h : loop.i < args.n = loop-test.true in
+    let loop_test = c.loop-i-test in
+    let reply_utc = c.reply_utc-r in
+    let h : loop.i < args.n = loop_test.true in
     let at = each_one tai_to_utc args.tais.now loop.i (omega arith) in (
       omega arith,
-      filled_one loop.invariant.1 (omega arith) at _ (λ s p. (reply-utc.ensures s p).its_number),
-      filled_one loop.invariant.2 (omega arith) at _ (λ s p. (reply-utc.ensures s p).its_day),
-      filled_one loop.invariant.3 (omega arith) at _ (λ s p. (reply-utc.ensures s p).its_micros),
+      filled_one loop.invariant.1 (omega arith) at _ (λ s p. (reply_utc.ensures s p).its_number),
+      filled_one loop.invariant.2 (omega arith) at _ (λ s p. (reply_utc.ensures s p).its_day),
+      filled_one loop.invariant.3 (omega arith) at _ (λ s p. (reply_utc.ensures s p).its_micros),
     )
 
 pub shape_of-numbers : goal.shape_of-numbers
@@ -61,8 +61,8 @@ shape_of-micros c = c.loop-i.invariant.3.size
 pub returns : goal.returns
 returns c s p =
     let loop = c.loop-i in
-    let loop-test = c.loop-i-test in (
-      filled_all loop.invariant.1 loop.invariant.0 loop-test.false s p,
-      filled_all loop.invariant.2 loop.invariant.0 loop-test.false s p,
-      filled_all loop.invariant.3 loop.invariant.0 loop-test.false s p,
+    let loop_test = c.loop-i-test in (
+      filled_all loop.invariant.1 loop.invariant.0 loop_test.false s p,
+      filled_all loop.invariant.2 loop.invariant.0 loop_test.false s p,
+      filled_all loop.invariant.3 loop.invariant.0 loop_test.false s p,
     )

@@ -8,12 +8,12 @@ use Rattle.many.proofs.replies.reply_utc.Goals as goal
 
 pub returns : goal.returns
 returns c s p =
-    let utc-on = c.utc_on-a in
+    let utc_on = c.utc_on-a in
     let found = c.found in
-    let near-day = c.near_day-near in
+    let near_day_call = c.near_day-near in
     let args = c.args in
     let utc_number_lem = c.utc_number in
-    let utc-day = c.utc_day in
-    let utc-micros = c.utc_micros in
-    let answer = utc-on.ensures ∙ ap utc_answer (utc_said args.tai (found.ensures s p) (λ w. near-day.ensures ∙ ap (near_day args.tai) p.is_last)) in
-    hands_utc _ _ answer _ _ _ utc_number_lem.ensures utc-day.ensures utc-micros.ensures
+    let utc_day = c.utc_day in
+    let utc_micros = c.utc_micros in
+    let answer = utc_on.ensures ∙ ap utc_answer (utc_said args.tai (found.ensures s p) (λ w. near_day_call.ensures ∙ ap (near_day args.tai) p.is_last)) in
+    hands_utc _ _ answer _ _ _ utc_number_lem.ensures utc_day.ensures utc_micros.ensures

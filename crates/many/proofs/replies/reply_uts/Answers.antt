@@ -8,18 +8,18 @@ use Rattle.many.proofs.replies.reply_uts.Goals as goal
 
 pub returns-then-micros-lt-UTS_CUTOFF : goal.returns-then-micros-lt-UTS_CUTOFF
 returns-then-micros-lt-UTS_CUTOFF c s p =
-    let early-uts = c.early_uts-a in
+    let early_uts = c.early_uts-a in
     let args = c.args in
     let if1 = c.if-micros-lt-UTS_CUTOFF in
-    let uts-number = c.uts_number in
-    let uts-value = c.uts_value in
-    hands_value 0 uts_answer uts_number uts_value uts_told _ _ (early-uts.ensures ∙ ap uts_answer (early_uts_said (list_in_lem p) args.day args.micros if1.true)) _ uts-number.ensures _ uts-value.ensures
+    let uts_number_call = c.uts_number in
+    let uts_value_call = c.uts_value in
+    hands_value 0 uts_answer uts_number uts_value uts_told _ _ (early_uts.ensures ∙ ap uts_answer (early_uts_said (list_in_lem p) args.day args.micros if1.true)) _ uts_number_call.ensures _ uts_value_call.ensures
 
 pub returns : goal.returns
 returns c s p =
-    let uts-on = c.uts_on-a in
+    let uts_on = c.uts_on-a in
     let found = c.found in
     let args = c.args in
-    let uts-number2 = c.uts_number-2 in
-    let uts-value2 = c.uts_value-2 in
-    hands_value 0 uts_answer uts_number uts_value uts_told _ _ (uts-on.ensures ∙ ap uts_answer (uts_said (found.ensures s p) args.micros)) _ uts-number2.ensures _ uts-value2.ensures
+    let uts_number2 = c.uts_number-2 in
+    let uts_value2 = c.uts_value-2 in
+    hands_value 0 uts_answer uts_number uts_value uts_told _ _ (uts_on.ensures ∙ ap uts_answer (uts_said (found.ensures s p) args.micros)) _ uts_number2.ensures _ uts_value2.ensures

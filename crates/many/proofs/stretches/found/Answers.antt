@@ -82,7 +82,7 @@ returns c s p =
     let smaller = c.smaller-near in
     let pre = c.requires in
     let walk = c.walk-at in
-    let ending-in = c.ending_in-ending in
+    let ending_in = c.ending_in-ending in
     let e = smaller.ensures in
     let d : smaller.result < end_day = omega (arith, pre.inside) in
-    day_for_near p.is_last (rw e at (day_in_stretch p d walk.ensures _ refl refl refl (ending-in.ensures s p) refl))
+    day_for_near p.is_last (rw e at (day_in_stretch p d walk.ensures _ refl refl refl (ending_in.ensures s p) refl))

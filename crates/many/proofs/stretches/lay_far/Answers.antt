@@ -25,11 +25,11 @@ pub loop-i-preserved : goal.loop-i-preserved
 loop-i-preserved c =
     let pre = c.requires in
     let loop = c.loop-i in
-    let loop-test = c.loop-i-test in
-    emptying_one pre loop.invariant loop-test.true
+    let loop_test = c.loop-i-test in
+    emptying_one pre loop.invariant loop_test.true
 
 pub returns : goal.returns
 returns c =
     let loop = c.loop-i in
-    let loop-test = c.loop-i-test in
-    emptying_all loop.invariant loop-test.false
+    let loop_test = c.loop-i-test in
+    emptying_all loop.invariant loop_test.false

@@ -18,8 +18,8 @@ pub walk-at-requires : goal.walk-at-requires
 walk-at-requires c =
     let loop = c.loop-i in
     let pre = c.requires in
-    let loop-test = c.loop-i-test in
-    (loop.invariant.1.room, omega (arith, loop.invariant.1.begun), omega (arith, loop.invariant.1.within.below 257 (omega arith), pre.1.end, loop-test.true, loop.invariant.0))
+    let loop_test = c.loop-i-test in
+    (loop.invariant.1.room, omega (arith, loop.invariant.1.begun), omega (arith, loop.invariant.1.within.below 257 (omega arith), pre.1.end, loop_test.true, loop.invariant.0))
 
 pub overflow_cast-prepared : goal.overflow_cast-prepared
 overflow_cast-prepared c = omega arith
@@ -42,9 +42,9 @@ loop-i-smaller c = omega arith
 pub loop-i-preserved : goal.loop-i-preserved
 loop-i-preserved c =
     let loop = c.loop-i in
-    let loop-test = c.loop-i-test in
+    let loop_test = c.loop-i-test in
     let walk = c.walk-at in
-    (loop.invariant.0, guessing_one loop.invariant.1 (omega (arith, loop-test.true, loop.invariant.0)) walk.result walk.ensures)
+    (loop.invariant.0, guessing_one loop.invariant.1 (omega (arith, loop_test.true, loop.invariant.0)) walk.result walk.ensures)
 
 pub returns : goal.returns
 returns c = (c.loop-i.invariant.1.within, c.loop-i.invariant.1.guesses)

@@ -28,8 +28,8 @@ overflow_cast-month c =
     let args = c.args in
     let pre = c.requires in
     let loop = c.loop-i in
-    let loop-test = c.loop-i-test in
-    let m = month_meant args.words.now pre.0 loop.i (omega (arith, loop-test.true, loop.invariant.0)) in
+    let loop_test = c.loop-i-test in
+    let m = month_meant args.words.now pre.0 loop.i (omega (arith, loop_test.true, loop.invariant.0)) in
     omega arith
 
 pub overflow_cast-prepared : goal.overflow_cast-prepared
@@ -37,10 +37,10 @@ overflow_cast-prepared c =
     let args = c.args in
     let pre = c.requires in
     let loop = c.loop-i in
-    let loop-test = c.loop-i-test in
-    let first-day = c.first_day in
-    let m = month_meant args.words.now pre.0 loop.i (omega (arith, loop-test.true, loop.invariant.0)) in
-    omega (arith, first-day.ensures, start_min m, start_to m)
+    let loop_test = c.loop-i-test in
+    let first_day = c.first_day in
+    let m = month_meant args.words.now pre.0 loop.i (omega (arith, loop_test.true, loop.invariant.0)) in
+    omega (arith, first_day.ensures, start_min m, start_to m)
 
 pub overflow_add-prepared : goal.overflow_add-prepared
 overflow_add-prepared c = omega arith
@@ -62,22 +62,22 @@ loop-i-preserved c =
     let args = c.args in
     let pre = c.requires in
     let loop = c.loop-i in
-    let loop-test = c.loop-i-test in
-    let first-day = c.first_day in
+    let loop_test = c.loop-i-test in
+    let first_day = c.first_day in
     let words = args.words.now in
     let w = pre.0 in
     let n = count_is words w in
-    let h : loop.i < count_word words = omega (arith, loop-test.true, loop.invariant.0) in (
+    let h : loop.i < count_word words = omega (arith, loop_test.true, loop.invariant.0) in (
       loop.invariant.0,
       loop.invariant.1,
-      starting_one pre.1 (omega (arith, count_room words w)) loop.invariant.2 (omega arith) first-day.result
-          (first-day.ensures ∙ start_min (month_meant words w loop.i h) ∙ ap month_start (month_word_lem words w loop.i h)),
+      starting_one pre.1 (omega (arith, count_room words w)) loop.invariant.2 (omega arith) first_day.result
+          (first_day.ensures ∙ start_min (month_meant words w loop.i h) ∙ ap month_start (month_word_lem words w loop.i h)),
     )
 
 pub returns : goal.returns
 returns c =
     let loop = c.loop-i in
-    let loop-test = c.loop-i-test in
+    let loop_test = c.loop-i-test in
     let args = c.args in
     let pre = c.requires in
-    starting_all loop.invariant.2 (omega (arith, loop.invariant.0, loop-test.false, count_is args.words.now pre.0))
+    starting_all loop.invariant.2 (omega (arith, loop.invariant.0, loop_test.false, count_is args.words.now pre.0))

@@ -31,8 +31,8 @@ overflow_add-down-in-loop-i c =
     let args = c.args in
     let pre = c.requires in
     let loop = c.loop-i in
-    let loop-test = c.loop-i-test in
-    let r = sign_fits args.words.now pre.0 loop.i (omega (arith, loop-test.true, loop.invariant.0)) in
+    let loop_test = c.loop-i-test in
+    let r = sign_fits args.words.now pre.0 loop.i (omega (arith, loop_test.true, loop.invariant.0)) in
     omega arith
 
 pub overflow_add-i : goal.overflow_add-i
@@ -46,8 +46,8 @@ overflow_sub-prepared c =
     let args = c.args in
     let pre = c.requires in
     let loop = c.loop-i in
-    let loop-test = c.loop-i-test in
-    let r = sign_fits args.words.now pre.0 loop.i (omega (arith, loop-test.true, loop.invariant.0)) in
+    let loop_test = c.loop-i-test in
+    let r = sign_fits args.words.now pre.0 loop.i (omega (arith, loop_test.true, loop.invariant.0)) in
     omega arith
 
 pub overflow_add-prepared : goal.overflow_add-prepared
@@ -76,11 +76,11 @@ loop-i-preserved c =
     let args = c.args in
     let pre = c.requires in
     let loop = c.loop-i in
-    let loop-test = c.loop-i-test in
+    let loop_test = c.loop-i-test in
     let words = args.words.now in
     let w = pre.0 in
     let n = count_is words w in
-    let h : loop.i < count_word words = omega (arith, loop-test.true, loop.invariant.0) in
+    let h : loop.i < count_word words = omega (arith, loop_test.true, loop.invariant.0) in
     let r = sign_fits words w loop.i h in (
       loop.invariant.0,
       loop.invariant.1,
@@ -91,7 +91,7 @@ loop-i-preserved c =
 pub returns : goal.returns
 returns c =
     let loop = c.loop-i in
-    let loop-test = c.loop-i-test in
+    let loop_test = c.loop-i-test in
     let args = c.args in
     let pre = c.requires in
-    tallying_all loop.invariant.3 (omega (arith, loop.invariant.0, loop-test.false, count_is args.words.now pre.0))
+    tallying_all loop.invariant.3 (omega (arith, loop.invariant.0, loop_test.false, count_is args.words.now pre.0))

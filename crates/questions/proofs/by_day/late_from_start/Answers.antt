@@ -10,19 +10,19 @@ returns-then-length-t c =
     let pre = c.requires in
     let args = c.args in
     let if1 = c.if-length-t in
-    let day-length = c.day_length-length in
-    let on-day = c.on_day in
+    let day_length_call = c.day_length-length in
+    let on_day_call = c.on_day in
     let k = args.k in
-    rw (le-ltb args.t short_day pre.1, le-ltb args.t (day_length k.ending) (omega (arith, if1.true, day-length.ensures)))
-    (on-day.ensures ∙ ap (λ l. utc_answer (on_day (args.day + 1) (args.t - l) k.last)) day-length.ensures)
+    rw (le-ltb args.t short_day pre.1, le-ltb args.t (day_length k.ending) (omega (arith, if1.true, day_length_call.ensures)))
+    (on_day_call.ensures ∙ ap (λ l. utc_answer (on_day (args.day + 1) (args.t - l) k.last)) day_length_call.ensures)
 
 pub returns : goal.returns
 returns c =
     let pre = c.requires in
     let args = c.args in
     let if1 = c.if-length-t in
-    let day-length = c.day_length-length in
-    let on-day2 = c.on_day-2 in
+    let day_length_call = c.day_length-length in
+    let on_day2 = c.on_day-2 in
     let k = args.k in
-    rw (le-ltb args.t short_day pre.1, lt-ltb args.t (day_length k.ending) (omega (arith, if1.false, day-length.ensures)))
-    on-day2.ensures
+    rw (le-ltb args.t short_day pre.1, lt-ltb args.t (day_length k.ending) (omega (arith, if1.false, day_length_call.ensures)))
+    on_day2.ensures

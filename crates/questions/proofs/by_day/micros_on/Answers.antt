@@ -11,23 +11,23 @@ use Rattle.questions.proofs.by_day.micros_on.Goals as goal
 pub returns-then-number-ne0 : goal.returns-then-number-ne0
 returns-then-number-ne0 c =
     let args = c.args in
-    let instant-refusal = c.instant_refusal-number in
+    let instant_refusal = c.instant_refusal-number in
     let if1 = c.if-number-ne0 in
     let k = args.k in
-    sym (ap micros_answer (then_refused _ (instant_then k.well k.last nanos_per_day nanos_cutoff args.day args.nanos (given (utc_of k.ending args.nanos))) instant-refusal.ensures.0 if1.true))
+    sym (ap micros_answer (then_refused _ (instant_then k.well k.last nanos_per_day nanos_cutoff args.day args.nanos (given (utc_of k.ending args.nanos))) instant_refusal.ensures.0 if1.true))
 
 pub unsmoothed-requires : goal.unsmoothed-requires
 unsmoothed-requires c =
-    let instant-refusal = c.instant_refusal-number in
+    let instant_refusal = c.instant_refusal-number in
     let if1 = c.if-number-ne0 in
-    (instant-refusal.ensures.1 if1.false).2
+    (instant_refusal.ensures.1 if1.false).2
 
 pub returns : goal.returns
 returns c =
     let args = c.args in
     let unsmoothed = c.unsmoothed in
-    let instant-refusal = c.instant_refusal-number in
+    let instant_refusal = c.instant_refusal-number in
     let if1 = c.if-number-ne0 in
     let k = args.k in
     ap (λ t. Given (record { 0 = t })) unsmoothed.ensures
-    ∙ sym (ap micros_answer (then_passed _ (instant_then k.well k.last nanos_per_day nanos_cutoff args.day args.nanos (given (utc_of k.ending args.nanos))) instant-refusal.ensures.0 if1.false))
+    ∙ sym (ap micros_answer (then_passed _ (instant_then k.well k.last nanos_per_day nanos_cutoff args.day args.nanos (given (utc_of k.ending args.nanos))) instant_refusal.ensures.0 if1.false))

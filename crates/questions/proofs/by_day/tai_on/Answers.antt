@@ -21,29 +21,29 @@ pub returns-then-number-ne0 : goal.returns-then-number-ne0
 returns-then-number-ne0 c =
     let args = c.args in
     let if1 = c.if-k-ge-END_DAY in
-    let utc-refusal = c.utc_refusal-number in
+    let utc_refusal = c.utc_refusal-number in
     let if2 = c.if-number-ne0 in
     let k = args.k in
     let checks = utc_then k.well k.last k.ending tai_cutoff args.day args.micros (tai_said k args.day args.micros) in
-    sym (ap tai_answer (pass not_well_formed (lt-ltb k.last end_day if1.false) ∙ then_refused _ checks utc-refusal.ensures.0 if2.true))
+    sym (ap tai_answer (pass not_well_formed (lt-ltb k.last end_day if1.false) ∙ then_refused _ checks utc_refusal.ensures.0 if2.true))
 
 pub tai_at-requires : goal.tai_at-requires
 tai_at-requires c =
-    let utc-refusal = c.utc_refusal-number in
+    let utc_refusal = c.utc_refusal-number in
     let if2 = c.if-number-ne0 in
     let if1 = c.if-k-ge-END_DAY in
     let args = c.args in
-    let on = utc-refusal.ensures.1 if2.false in
+    let on = utc_refusal.ensures.1 if2.false in
     (omega (arith, on.1, if1.false), omega (arith, on.2, length_most args.k.ending))
 
 pub returns : goal.returns
 returns c =
     let args = c.args in
-    let tai-at = c.tai_at in
+    let tai_at = c.tai_at in
     let if1 = c.if-k-ge-END_DAY in
-    let utc-refusal = c.utc_refusal-number in
+    let utc_refusal = c.utc_refusal-number in
     let if2 = c.if-number-ne0 in
     let k = args.k in
     let checks = utc_then k.well k.last k.ending tai_cutoff args.day args.micros (tai_said k args.day args.micros) in
-    ap (λ x. Given (record { 0 = x })) tai-at.ensures
-    ∙ sym (ap tai_answer (pass not_well_formed (lt-ltb k.last end_day if1.false) ∙ then_passed _ checks utc-refusal.ensures.0 if2.false))
+    ap (λ x. Given (record { 0 = x })) tai_at.ensures
+    ∙ sym (ap tai_answer (pass not_well_formed (lt-ltb k.last end_day if1.false) ∙ then_passed _ checks utc_refusal.ensures.0 if2.false))

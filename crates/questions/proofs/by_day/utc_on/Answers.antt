@@ -39,15 +39,15 @@ returns-then-near-ge-END_DAY c =
 pub returns-then-t-lt-SHORT_DAY : goal.returns-then-t-lt-SHORT_DAY
 returns-then-t-lt-SHORT_DAY c =
     let args = c.args in
-    let wrapping-sub-u64 = c.wrapping_sub_u64-t in
-    let tai-at = c.tai_at in
+    let wrapping_sub_u64 = c.wrapping_sub_u64-t in
+    let tai_at = c.tai_at in
     let if1 = c.if-not-k in
     let if2 = c.if-tai-lt-FIRST_TAI in
     let if3 = c.if-near-ge-END_DAY in
     let if4 = c.if-t-lt-SHORT_DAY in
-    let since = held_is args.tai _ _ wrapping-sub-u64.ensures.value wrapping-sub-u64.type_inv tai-at.type_inv ∙ ap (λ start. held args.tai start) tai-at.ensures in
-    let early : from_start args.k args.near wrapping-sub-u64.result ≡ given (record { day = args.near; micros = wrapping-sub-u64.result })
-    = rw (lt-ltb wrapping-sub-u64.result short_day if4.true) in
+    let since = held_is args.tai _ _ wrapping_sub_u64.ensures.value wrapping_sub_u64.type_inv tai_at.type_inv ∙ ap (λ start. held args.tai start) tai_at.ensures in
+    let early : from_start args.k args.near wrapping_sub_u64.result ≡ given (record { day = args.near; micros = wrapping_sub_u64.result })
+    = rw (lt-ltb wrapping_sub_u64.result short_day if4.true) in
     sym (ap utc_answer
     (pass not_well_formed (not-false args.k.well if1.false)
     ∙ pass before1972 (le-leb first_tai _ if2.false)
@@ -58,14 +58,14 @@ returns-then-t-lt-SHORT_DAY c =
 pub returns : goal.returns
 returns c =
     let args = c.args in
-    let wrapping-sub-u64 = c.wrapping_sub_u64-t in
-    let tai-at = c.tai_at in
-    let late-from-start = c.late_from_start in
+    let wrapping_sub_u64 = c.wrapping_sub_u64-t in
+    let tai_at = c.tai_at in
+    let late_from_start = c.late_from_start in
     let if1 = c.if-not-k in
     let if2 = c.if-tai-lt-FIRST_TAI in
     let if3 = c.if-near-ge-END_DAY in
-    let since = held_is args.tai _ _ wrapping-sub-u64.ensures.value wrapping-sub-u64.type_inv tai-at.type_inv ∙ ap (λ start. held args.tai start) tai-at.ensures in
-    late-from-start.ensures
+    let since = held_is args.tai _ _ wrapping_sub_u64.ensures.value wrapping_sub_u64.type_inv tai_at.type_inv ∙ ap (λ start. held args.tai start) tai_at.ensures in
+    late_from_start.ensures
     ∙ sym (ap utc_answer
     (pass not_well_formed (not-false args.k.well if1.false)
     ∙ pass before1972 (le-leb first_tai _ if2.false)

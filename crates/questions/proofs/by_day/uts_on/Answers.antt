@@ -10,23 +10,23 @@ use Rattle.questions.proofs.by_day.uts_on.Goals as goal
 pub returns-then-number-ne0 : goal.returns-then-number-ne0
 returns-then-number-ne0 c =
     let args = c.args in
-    let utc-refusal = c.utc_refusal-number in
+    let utc_refusal = c.utc_refusal-number in
     let if1 = c.if-number-ne0 in
     let k = args.k in
-    sym (ap uts_answer (then_refused _ (utc_then k.well k.last k.ending uts_cutoff args.day args.micros (uts k.ending args.micros)) utc-refusal.ensures.0 if1.true))
+    sym (ap uts_answer (then_refused _ (utc_then k.well k.last k.ending uts_cutoff args.day args.micros (uts k.ending args.micros)) utc_refusal.ensures.0 if1.true))
 
 pub smoothed-requires : goal.smoothed-requires
 smoothed-requires c =
-    let utc-refusal = c.utc_refusal-number in
+    let utc_refusal = c.utc_refusal-number in
     let if1 = c.if-number-ne0 in
-    (utc-refusal.ensures.1 if1.false).2
+    (utc_refusal.ensures.1 if1.false).2
 
 pub returns : goal.returns
 returns c =
     let args = c.args in
     let smoothed = c.smoothed in
-    let utc-refusal = c.utc_refusal-number in
+    let utc_refusal = c.utc_refusal-number in
     let if1 = c.if-number-ne0 in
     let k = args.k in
     ap (λ u. Given (record { 0 = u })) smoothed.ensures
-    ∙ sym (ap uts_answer (then_passed _ (utc_then k.well k.last k.ending uts_cutoff args.day args.micros (uts k.ending args.micros)) utc-refusal.ensures.0 if1.false))
+    ∙ sym (ap uts_answer (then_passed _ (utc_then k.well k.last k.ending uts_cutoff args.day args.micros (uts k.ending args.micros)) utc_refusal.ensures.0 if1.false))

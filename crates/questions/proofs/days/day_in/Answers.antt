@@ -4,7 +4,7 @@ use Rattle.questions.proofs.days.day_in.Goals as goal
 
 pub returns : goal.returns
 returns c =
-    let month-of = c.month_of-found in
+    let month_of = c.month_of-found in
     let wide = c.wide in
     let look = c.look in
-    looked month-of.ensures (rw (← wide.ensures.0) look.ensures)
+    looked month_of.ensures (rw (← wide.ensures.0) look.ensures)

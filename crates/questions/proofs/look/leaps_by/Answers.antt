@@ -46,10 +46,10 @@ returns-then-words-before c =
     let args = c.args in
     let loop = c.loop-n in
     let pre = c.requires in
-    let loop-test = c.loop-n-test in
+    let loop_test = c.loop-n-test in
     let if1 = c.if-words-before in
     let words = args.words.now in
-    let inside : loop.n - 1 < count_word words = omega (arith, loop.invariant.room, count_is words (pre), loop-test.true) in (
+    let inside : loop.n - 1 < count_word words = omega (arith, loop.invariant.room, count_is words (pre), loop_test.true) in (
       beyond_found loop.invariant (meant words).expiry (parts (meant words) (pre)).gaps
           (omega (arith, if1.true, ap (λ l. l.month) (leap_meant words (pre) (loop.n - 1) inside))),
       omega (arith, inside, count_room words (pre)),
@@ -63,14 +63,14 @@ loop-n-preserved c =
     let args = c.args in
     let loop = c.loop-n in
     let pre = c.requires in
-    let loop-test = c.loop-n-test in
+    let loop_test = c.loop-n-test in
     let if1 = c.if-words-before in
     let words = args.words.now in
-    let inside : loop.n - 1 < count_word words = omega (arith, loop.invariant.room, count_is words (pre), loop-test.true) in
-    beyond_one loop.invariant loop-test.true (omega (arith, if1.false, ap (λ l. l.month) (leap_meant words (pre) (loop.n - 1) inside)))
+    let inside : loop.n - 1 < count_word words = omega (arith, loop.invariant.room, count_is words (pre), loop_test.true) in
+    beyond_one loop.invariant loop_test.true (omega (arith, if1.false, ap (λ l. l.month) (leap_meant words (pre) (loop.n - 1) inside)))
 
 pub returns : goal.returns
 returns c =
     let loop = c.loop-n in
-    let loop-test = c.loop-n-test in
-    (beyond_all loop.invariant loop-test.false, omega (arith, loop-test.false))
+    let loop_test = c.loop-n-test in
+    (beyond_all loop.invariant loop_test.false, omega (arith, loop_test.false))

@@ -13,8 +13,8 @@ returns-then-letter-eq81 c =
     let args = c.args in
     let if1 = c.if-letter-eq76 in
     let if2 = c.if-letter-eq81 in
-    let question-of = c.question_of in
-    rw (ne_eqb args.letter 76 if1.false, eq-eqb args.letter 81 if2.true) question-of.ensures
+    let question_of = c.question_of in
+    rw (ne_eqb args.letter 76 if1.false, eq-eqb args.letter 81 if2.true) question_of.ensures
 
 pub returns : goal.returns
 returns c =

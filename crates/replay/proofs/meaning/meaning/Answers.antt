@@ -16,5 +16,5 @@ unfolding meaning
 returns c =
     let args = c.args in
     let if1 = c.if-line-gt-MAX_LINE in
-    let Line-of = c.line_of in
-    rw (le-leb (length args.line.now) 4096 if1.false) Line-of.ensures
+    let line_of = c.line_of in
+    rw (le-leb (length args.line.now) 4096 if1.false) line_of.ensures

@@ -15,14 +15,14 @@ slice_bounds-asks-end c =
 pub returns-then-end-bytes : goal.returns-then-end-bytes
 returns-then-end-bytes c =
     let args = c.args in
-    let part-end = c.part_end-end in
+    let part_end = c.part_end-end in
     let if1 = c.if-end-bytes in
     let asks = c.asks in
-    rw (first_and_rest 32 args.bytes.now _ part-end.ensures if1.true) (asks.ensures ∙ sym (last_field _ _))
+    rw (first_and_rest 32 args.bytes.now _ part_end.ensures if1.true) (asks.ensures ∙ sym (last_field _ _))
 
 pub returns : goal.returns
 returns c =
     let args = c.args in
-    let part-end = c.part_end-end in
+    let part_end = c.part_end-end in
     let if1 = c.if-end-bytes in
-    rw (only 32 args.bytes.now _ part-end.ensures if1.false)
+    rw (only 32 args.bytes.now _ part_end.ensures if1.false)

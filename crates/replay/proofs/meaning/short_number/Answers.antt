@@ -16,5 +16,5 @@ unfolding short_number
 returns c =
     let args = c.args in
     let if1 = c.if-field-gt-MAX_DIGITS in
-    let read-decimal = c.read_decimal in
-    rw (le-leb (length args.field.now) 18 if1.false) read-decimal.ensures
+    let read_decimal = c.read_decimal in
+    rw (le-leb (length args.field.now) 18 if1.false) read_decimal.ensures

@@ -30,38 +30,38 @@ returns-then-expiry-from c =
 pub returns-then-is_first : goal.returns-then-is_first
 returns-then-is_first c =
     let wide = c.wide-month in
-    let latest-month = c.latest_month in
+    let latest_month = c.latest_month in
     let args = c.args in
     let pre = c.requires in
     let if2 = c.if-expiry-le-FIRST_DAY in
     let if5 = c.if-month-from in
     let if6 = c.if-is_first in
-    let is-first = c.is_first in
-    let month = wide.ensures ∙ latest-month.ensures in
-    (sym (same_month args.from args.expiry pre if2.false month if5.true true (sym if6.true ∙ is-first.ensures)), omega arith)
+    let is_first = c.is_first in
+    let month = wide.ensures ∙ latest_month.ensures in
+    (sym (same_month args.from args.expiry pre if2.false month if5.true true (sym if6.true ∙ is_first.ensures)), omega arith)
 
 pub returns-then-month-from : goal.returns-then-month-from
 returns-then-month-from c =
     let wide = c.wide-month in
-    let latest-month = c.latest_month in
+    let latest_month = c.latest_month in
     let args = c.args in
     let pre = c.requires in
     let if2 = c.if-expiry-le-FIRST_DAY in
     let if5 = c.if-month-from in
     let if6 = c.if-is_first in
-    let is-first = c.is_first in
-    let month = wide.ensures ∙ latest-month.ensures in
-    (sym (same_month args.from args.expiry pre if2.false month if5.true false (sym if6.false ∙ is-first.ensures)), omega arith)
+    let is_first = c.is_first in
+    let month = wide.ensures ∙ latest_month.ensures in
+    (sym (same_month args.from args.expiry pre if2.false month if5.true false (sym if6.false ∙ is_first.ensures)), omega arith)
 
 pub returns : goal.returns
 returns c =
     let wide = c.wide-month in
-    let latest-month = c.latest_month in
+    let latest_month = c.latest_month in
     let misfit = c.misfit in
     let if1 = c.if-from-ge-LAST_MONTH in
     let args = c.args in
     let pre = c.requires in
     let if2 = c.if-expiry-le-FIRST_DAY in
     let if5 = c.if-month-from in
-    let month = wide.ensures ∙ latest-month.ensures in
+    let month = wide.ensures ∙ latest_month.ensures in
     (misfit.ensures.0 (omega (arith, if1.false)) ∙ sym (other_month args.from args.expiry pre if2.false month if5.false), misfit.ensures.1)

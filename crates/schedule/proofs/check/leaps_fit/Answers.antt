@@ -53,31 +53,31 @@ loop-i-preserved c =
     let loop = c.loop-i in
     let unsigned = c.unsigned-signs in
     let misfit = c.misfit-faults in
-    let loop-test = c.loop-i-test in
+    let loop_test = c.loop-i-test in
     gapped_at_one args.words.now pre.0 loop.signs loop.faults loop.last loop.i loop.invariant unsigned.result misfit.result
-    loop-test.true unsigned.ensures misfit.ensures
+    loop_test.true unsigned.ensures misfit.ensures
 
 pub overflow_add-faults-2 : goal.overflow_add-faults-2
 overflow_add-faults-2 c =
     let args = c.args in
     let loop = c.loop-i in
-    let expiry-misfit = c.expiry_misfit-faults in
+    let expiry_misfit = c.expiry_misfit-faults in
     let pre = c.requires in
-    omega (arith, loop.invariant.gapped.few, loop.invariant.gapped.place, laid_length args.words.now, expiry-misfit.ensures.1, pre.0)
+    omega (arith, loop.invariant.gapped.few, loop.invariant.gapped.place, laid_length args.words.now, expiry_misfit.ensures.1, pre.0)
 
 pub overflow_add-result : goal.overflow_add-result
 overflow_add-result c =
     let args = c.args in
     let loop = c.loop-i in
-    let expiry-misfit = c.expiry_misfit-faults in
+    let expiry_misfit = c.expiry_misfit-faults in
     let pre = c.requires in
-    omega (arith, loop.invariant.few, loop.invariant.gapped.few, loop.invariant.gapped.place, laid_length args.words.now, expiry-misfit.ensures.1, pre.0)
+    omega (arith, loop.invariant.few, loop.invariant.gapped.few, loop.invariant.gapped.place, laid_length args.words.now, expiry_misfit.ensures.1, pre.0)
 
 pub returns : goal.returns
 returns c =
     let args = c.args in
     let pre = c.requires in
     let loop = c.loop-i in
-    let loop-test = c.loop-i-test in
-    let expiry-misfit = c.expiry_misfit-faults in
-    gapped_at_all args.words.now pre.0 loop.signs loop.faults loop.last loop.i loop.invariant loop-test.false expiry-misfit.result expiry-misfit.ensures.0
+    let loop_test = c.loop-i-test in
+    let expiry_misfit = c.expiry_misfit-faults in
+    gapped_at_all args.words.now pre.0 loop.signs loop.faults loop.last loop.i loop.invariant loop_test.false expiry_misfit.result expiry_misfit.ensures.0

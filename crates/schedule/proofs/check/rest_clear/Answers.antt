@@ -21,15 +21,15 @@ loop-j-smaller c = omega arith
 
 pub loop-j-preserved : goal.loop-j-preserved
 loop-j-preserved c =
-    let loop-test = c.loop-j-test in
+    let loop_test = c.loop-j-test in
     let loop = c.loop-j in
-    (omega (arith, loop-test.true), together_one loop.invariant.1)
+    (omega (arith, loop_test.true), together_one loop.invariant.1)
 
 pub returns : goal.returns
 returns c =
     let loop = c.loop-j in
-    let loop-test = c.loop-j-test in
+    let loop_test = c.loop-j-test in
     let args = c.args in
     let pre = c.requires in
-    let end : loop.j ≡ 512 = omega (arith, loop.invariant.0, loop-test.false) in
+    let end : loop.j ≡ 512 = omega (arith, loop.invariant.0, loop_test.false) in
     together_tells args.words.now (count_word args.words.now) loop.rest (rw end at loop.invariant.1)
