@@ -203,7 +203,7 @@ pub extern "C" fn leap_replay(
     used: &mut u64,
     written: &mut u64,
 ) -> u8
-    ensures { HandsReplay (record { current = current.entry.now; stored = stored.old }) trace.now out.old result (record { current = current.exit.now; stored = stored.new }) out.new used.new written.new }
+    ensures { HandsReplay (record { current = current.old; stored = stored.old }) trace.now out.old result (record { current = current.new; stored = stored.new }) out.new used.new written.new }
 {
     leap::leap_replay(current, stored, trace, out, used, written)
 }

@@ -76,7 +76,7 @@ fn replay_line(
     out: &mut [u8],
     at: usize,
 ) -> usize
-    ensures { LineReplayed (record { current = current.entry.now; stored = stored.old }) (record { current = current.exit.now; stored = stored.new }) (meaning line.now) out.old out.new at result }
+    ensures { LineReplayed (record { current = current.old; stored = stored.old }) (record { current = current.new; stored = stored.new }) (meaning line.now) out.old out.new at result }
 {
     let said = meaning::meaning(line);
     match said {
@@ -102,7 +102,7 @@ pub fn replay(
     trace: &[u8],
     out: &mut [u8],
 ) -> Step
-    ensures { LinesAnswered replaying (record { current = current.entry.now; stored = stored.old }) (answered replaying (length out.old) (record { current = current.entry.now; stored = stored.old }) (lines_of trace.now)) out.old out.new (record { current = current.exit.now; stored = stored.new }) result }
+    ensures { LinesAnswered replaying (record { current = current.old; stored = stored.old }) (answered replaying (length out.old) (record { current = current.old; stored = stored.old }) (lines_of trace.now)) out.old out.new (record { current = current.new; stored = stored.new }) result }
 {
     let mut used: usize = 0;
     let mut written: usize = 0;
