@@ -10,4 +10,5 @@ pub mod Back
 pub mod Spelling
 pub mod Faults
 pub mod Room
+pub mod Longest
 pub mod Numbers
