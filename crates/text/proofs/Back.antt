@@ -35,7 +35,7 @@ digit d g p t s rest g' p' e q h some fits =
     simp (le-leb zero_byte (zero_byte + d) (omega arith), le-leb (zero_byte + d) nine_byte (omega arith), follows g (zero_byte + d) is (λ z. omega arith) (omega arith), v, e, q)
 
 -- the digits of a gap, from where a gap is due
-gap_back : (g p t : ℕ) (s : Schedule) (rest : List ℕ) → 0 < g → g ≤ 999
+pub gap_back : (g p t : ℕ) (s : Schedule) (rest : List ℕ) → 0 < g → g ≤ 999
     → read_from 0 p t s (digits g ++ rest) ≡ read_from g (p + length (digits g)) t s rest
 unfolding digits
 gap_back g p t s rest some fits =
@@ -56,13 +56,13 @@ gap_back g p t s rest some fits =
     ∙ digit (g % 10) (g / 10) (p + 2) t s rest g (p + 3) ten (omega arith) low some fits))))
 
 -- a sign after a gap, and the mark of the expiry
-leap_back : (g p t m : ℕ) (s : Schedule) (k : Sign) (rest : List ℕ) → 0 < g → t + g ≡ m → m ≤ 2400 → length s.leaps < 256
+pub leap_back : (g p t m : ℕ) (s : Schedule) (k : Sign) (rest : List ℕ) → 0 < g → t + g ≡ m → m ≤ 2400 → length s.leaps < 256
     → read_from g p t s (sign_byte k ∷ rest) ≡ read_from 0 (p + 1) m (with_leap s m k) rest
 unfolding read_from
 leap_back g p t m s Positive rest some e h room = simp (ne_eqb g 0 (λ z. omega arith), e, le-leb m 2400 h, lt-ltb (length s.leaps) 256 room)
 leap_back g p t m s Negative rest some e h room = simp (ne_eqb g 0 (λ z. omega arith), e, le-leb m 2400 h, lt-ltb (length s.leaps) 256 room)
 
-end_back : (g p t m : ℕ) (s : Schedule) → 0 < g → t + g ≡ m → m ≤ 2400 → read_from g p t s (63 ∷ []) ≡ accepted s (month_start m)
+pub end_back : (g p t m : ℕ) (s : Schedule) → 0 < g → t + g ≡ m → m ≤ 2400 → read_from g p t s (63 ∷ []) ≡ accepted s (month_start m)
 unfolding read_from
 end_back g p t m s some e h = simp (ne_eqb g 0 (λ z. omega arith), e, le-leb m 2400 h)
 

@@ -8,5 +8,7 @@ pub mod Sound
 pub mod Places
 pub mod Back
 pub mod Spelling
+pub mod Faults
 pub mod Room
+pub mod Longest
 pub mod Numbers

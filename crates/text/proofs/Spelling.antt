@@ -24,27 +24,27 @@ use Rattle.text.proofs.Follow.{digit_low, digit_high, makes_gap}
 use Rattle.text.proofs.Cases.{by_mark_lem}
 
 -- what a mark's byte is
-sign_byte_lem : (b : ℕ) (k : Sign) → mark_of b ≡ Leaps k → b ≡ sign_byte k
+pub sign_byte_lem : (b : ℕ) (k : Sign) → mark_of b ≡ Leaps k → b ≡ sign_byte k
 sign_byte_lem b k e =
     by_bool (eqb b 43) (λ p. let q : Leaps Positive ≡ Leaps k = simp p at e in let r : Positive ≡ k = cc in eqb-true b 43 p ∙ ap sign_byte r)
     (λ p. by_bool (eqb b 45) (λ q. let m : Leaps Negative ≡ Leaps k = simp (p, q) at e in let r : Negative ≡ k = cc in eqb-true b 45 q ∙ ap sign_byte r)
     (λ q. by_bool (eqb b 63) (λ r. let m : Expires ≡ Leaps k = simp (p, q, r) at e in cc) (λ r. let m : Neither ≡ Leaps k = simp (p, q, r) at e in cc)))
 
-end_byte_lem : (b : ℕ) → mark_of b ≡ Expires → b ≡ 63
+pub end_byte_lem : (b : ℕ) → mark_of b ≡ Expires → b ≡ 63
 end_byte_lem b e =
     by_bool (eqb b 43) (λ p. let m : Leaps Positive ≡ Expires = simp p at e in cc)
     (λ p. by_bool (eqb b 45) (λ q. let m : Leaps Negative ≡ Expires = simp (p, q) at e in cc)
     (λ q. by_bool (eqb b 63) (λ r. eqb-true b 63 r) (λ r. let m : Neither ≡ Expires = simp (p, q, r) at e in cc)))
 
 -- the digits of a gap so far: none where a gap is due
-spelled : ℕ → List ℕ
+pub spelled : ℕ → List ℕ
 spelled g = cond (eqb g 0) [] (digits g)
 
-spelled_none : (g : ℕ) → g ≡ 0 → spelled g ≡ []
+pub spelled_none : (g : ℕ) → g ≡ 0 → spelled g ≡ []
 unfolding spelled
 spelled_none g e = rw e
 
-spelled_some : (g : ℕ) → 0 < g → spelled g ≡ digits g
+pub spelled_some : (g : ℕ) → 0 < g → spelled g ≡ digits g
 unfolding spelled
 spelled_some g h = simp (ne_eqb g 0 (λ e. omega arith))
 
@@ -76,7 +76,7 @@ record Says (whole : List ℕ) (r : Reading) : Type 0 where
 never : {whole : List ℕ} (n p : ℕ) → 0 < n → Says whole (refusal n p)
 never n p h = record { says = λ e. absurd (omega arith) }
 
-digit_read : (gap b : ℕ) (bs pre : List ℕ) → is_digit b ≡ true → may_follow gap b ≡ true → pre ++ (spelled gap ++ (b ∷ bs)) ≡ pre ++ (spelled (gap * 10 + digit_of b) ++ bs)
+pub digit_read : (gap b : ℕ) (bs pre : List ℕ) → is_digit b ≡ true → may_follow gap b ≡ true → pre ++ (spelled gap ++ (b ∷ bs)) ≡ pre ++ (spelled (gap * 10 + digit_of b) ++ bs)
 digit_read gap b bs pre i g =
     let low = digit_low b i in
     let high = digit_high b i in
