@@ -48,7 +48,7 @@ pub codes_wide : (n g : ℕ) (ns : List ℕ) → 8 ≤ n → codes_of (n ∷ g �
 unfolding codes_of
 codes_wide n g ns h = simp (le-ltb n 8 h)
 
-codes_lone : (n : ℕ) → 8 ≤ n → codes_of (n ∷ []) ≡ wide n last_g 1 ∷ codes_of []
+pub codes_lone : (n : ℕ) → 8 ≤ n → codes_of (n ∷ []) ≡ wide n last_g 1 ∷ codes_of []
 unfolding codes_of
 codes_lone n h = simp (le-ltb n 8 h)
 

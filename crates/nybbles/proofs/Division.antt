@@ -106,7 +106,7 @@ unpacked (m ∷ n ∷ ns) e (more h (more l a)) =
     rw (x, y, unpacked ns (omega arith) a)
 
 -- a 9 before the last single nybble is one nybble more, and where there is none the count is even
-none_single : (cs : List (List ℕ)) → All IsCode cs → any_single cs ≡ false → length (flatten cs) ≡ 2 * length cs
+pub none_single : (cs : List (List ℕ)) → All IsCode cs → any_single cs ≡ false → length (flatten cs) ≡ 2 * length cs
 unfolding any_single flatten
 none_single [] a e = refl
 none_single (c ∷ cs) (more (short h) a) e = absurd (false≢true (sym e))

@@ -14,3 +14,5 @@ mod Packed
 pub mod Meaning
 pub mod Back
 pub mod Room
+pub mod RulesRead
+pub mod RulesWrite

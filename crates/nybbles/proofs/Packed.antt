@@ -53,7 +53,7 @@ put_pack (m ∷ []) bs at k e l a = absurd (omega arith)
 put_pack (m ∷ n ∷ ns) bs at k e l (more h (more i a)) = put_pack ns (set bs k (m * 16 + n)) (suc (suc at)) (suc k) (omega arith) (omega arith) a ∙ rw (put_byte bs at k m n e i)
 
 -- bytes are the packing of their nybbles
-packed : (bs : List ℕ) → pack (nybbles bs) ≡ bs
+pub packed : (bs : List ℕ) → pack (nybbles bs) ≡ bs
 unfolding pack nybbles
 packed [] = refl
 packed (b ∷ bs) =

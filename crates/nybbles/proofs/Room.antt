@@ -1,19 +1,22 @@
 -- How much room a nybble list needs. Assumes nothing.
-use mathlib.Core.Path.{◌≡◌, refl}
+use mathlib.Core.Path.{◌≡◌, refl, ap, ◌∙◌}
 use mathlib.Core.Bool.{true}
 use mathlib.Core.List.{List, [], ◌∷◌, flatten}
-use Prim.Native.Nat.{ℕ, ◌*◌, ◌%◌, ◌≤◌}
+use Prim.Native.Nat.{ℕ, zero, suc, ◌+◌, ◌*◌, ◌-◌, ◌/◌, ◌%◌, ◌≤◌, ◌<◌}
 use native.Mathlib.Omega.{arith}
-use lib.Dec.{eqb}
-use lib.ListN.{length}
-use Rattle.schedule.specs.Schedule.{Schedule, expiry_month, leaves_gap, well_formed}
+use lib.Dec.{leb, eqb}
+use lib.ListN.{length, length-append}
+use borrow.Author.Tests.{lt-ltb, leb-true, le-leb, leb-false, eqb-true, eqb-false}
+use Rattle.schedule.specs.declared.Sign.TheVariants.{Positive}
+use Rattle.schedule.specs.Schedule.{Leap, Schedule, month_start, expiry_fits, gaps_fit, last_leap, expiry_month, leaves_gap, well_formed}
 use Rattle.schedule.proofs.Cases.{by_bool}
-use Rattle.schedule.proofs.Rounded.{rounded_gaps}
-use Rattle.calendar.proofs.Laws.{month_most}
-use Rattle.nybbles.specs.Write.{any_single, padded, evened, plain_codes, spelling, nybbles_of}
+use Rattle.schedule.proofs.Gaps.{fits_lt, parts}
+use Rattle.schedule.proofs.Rounded.{gaps_to, first_to, later_to, rounded_gaps}
+use Rattle.calendar.proofs.Laws.{start_lt, start_to, month_most, month_of_start}
+use Rattle.nybbles.specs.Write.{np_of, sixes_in, sixes, gap_codes, codes_from, any_single, padded, evened, plain_codes, spelling, nybbles_of}
 use Rattle.nybbles.proofs.Codes.{All, more}
-use Rattle.nybbles.proofs.Stored.{list_short}
-use Rattle.nybbles.proofs.Division.{IsCode, short, long, spelling_all, nybble_count}
+use Rattle.nybbles.proofs.Stored.{list_short, sixes_length, gap_sixes, gap_months, years_length}
+use Rattle.nybbles.proofs.Division.{IsCode, short, long, spelling_all, length_pack, nybble_count}
 
 -- a code has at most two nybbles, and evening adds none
 flat_short : (cs : List (List ℕ)) → All IsCode cs → length (flatten cs) ≤ 2 * length cs
@@ -40,3 +43,74 @@ at_most s w g =
     let b = evened_length (plain_codes s) in
     let c = flat_short (spelling s) (spelling_all s) in
     omega (arith, nybble_count s)
+
+-- the codes of a gap: one, and one more for each 16 months at most
+gap_few : (np gap : ℕ) → 0 < gap → 16 * length (gap_codes np gap) ≤ 15 + gap
+gap_few np gap some =
+    by_bool (eqb (gap % 6) 0)
+    (λ a. let z = eqb-true (gap % 6) 0 a in omega (arith, ap length (gap_sixes np gap z), sixes_length np (gap / 6) (omega arith)))
+    (λ a. let z = eqb-false (gap % 6) 0 a in
+    by_bool (leb gap 16)
+    (λ b. omega (arith, ap length (gap_months np gap z (leb-true _ _ b))))
+    (λ b. let l = leb-false gap 16 b in omega (arith, years_length np gap z l, sixes_length 0 (gap / 12 * 2) (omega arith))))
+
+list_few : (ls : List Leap) (from end : ℕ) → gaps_to from ls end ≡ true → from + 16 * length (codes_from from ls end) ≤ 15 * (length ls + 1) + end
+unfolding codes_from gaps_to
+list_few [] from end f =
+    let a : from < end = fits_lt from end f in
+    let b = gap_few 3 (end - from) (omega arith) in omega arith
+list_few (l ∷ ls) from end f =
+    let m = l.month in
+    let a : from < m = fits_lt from m (first_to from l ls end f) in
+    let b = gap_few (np_of l.sign) (m - from) (omega arith) in
+    let i = list_few ls m end (later_to from l ls end f) in
+    simp length-append (omega arith)
+
+-- so the nybble list of a well-formed schedule has at most 390 bytes
+pub at_most_390 : (s : Schedule) → well_formed s ≡ true → leaves_gap s ≡ true → length (nybbles_of s) ≤ 390
+unfolding spelling
+at_most_390 s w g =
+    let end = month_most s.expiry in
+    let a = list_few s.leaps 0 (expiry_month s) (rounded_gaps s w g) in
+    let b = evened_length (plain_codes s) in
+    let c = flat_short (spelling s) (spelling_all s) in
+    omega (arith, nybble_count s, (parts s w).room)
+
+-- n leaps, each a gap after the one before, and others
+unfoldable pub spaced : ℕ → ℕ → ℕ → List Leap → List Leap
+spaced zero gap from others = others
+spaced (suc n) gap from others = record { month = from + gap; sign = Positive } ∷ spaced n gap (from + gap) others
+
+-- 133 gaps of 17 months and 124 of 1: 256 leaps, and month 2385
+abbrev pub longest : Schedule
+longest = record { leaps = spaced 133 17 0 (spaced 123 1 2261 []); expiry = month_start 2385 }
+
+its_month : expiry_month longest ≡ 2385
+its_month = month_of_start (omega arith)
+
+its_gaps : gaps_fit 0 longest.leaps longest.expiry ≡ expiry_fits 2384 (month_start 2385)
+unfolding spaced gaps_fit
+its_gaps = refl
+
+its_end : expiry_fits 2384 (month_start 2385) ≡ true
+its_end =
+    let a : 2384 < 2385 = omega arith in
+    let b : 2385 < 3384 = omega arith in
+    simp (lt-ltb (month_start 2384) (month_start 2385) (start_lt a), lt-ltb (month_start 2385) (month_start 3384) (start_lt b))
+
+its_nybbles : length (flatten (codes_from 0 longest.leaps 2385)) ≡ 780
+unfolding spaced codes_from gap_codes sixes sixes_in flatten
+its_nybbles = refl
+
+-- it can be written, and takes all 390
+pub longest_well : well_formed longest ≡ true
+unfolding spaced
+longest_well = simp (le-leb (month_start 2385) 114366 (start_to (omega arith)), its_gaps, its_end)
+
+pub longest_leaves_gap : leaves_gap longest ≡ true
+unfolding spaced last_leap
+longest_leaves_gap = rw its_month
+
+pub longest_390 : length (nybbles_of longest) ≡ 390
+unfolding nybbles_of spelling evened
+longest_390 = rw its_month (simp its_nybbles (length_pack (flatten (codes_from 0 longest.leaps 2385)) ∙ omega (arith, its_nybbles)))
