@@ -76,8 +76,8 @@ no_digit : (b : ℕ) → NoDigit b → is_digit b ≡ false
 no_digit b (inl h) = simp (lt-leb 48 b h)
 no_digit b (inr h) = by_bool (leb 48 b) (λ e. simp (e, lt-leb b 57 h)) (λ e. simp e)
 
-is_digit_lem : (b : ℕ) → Digit b → is_digit b ≡ true
-is_digit_lem b h = simp (le-leb 48 b h.0, le-leb b 57 h.1)
+a_digit : (b : ℕ) → Digit b → is_digit b ≡ true
+a_digit b h = simp (le-leb 48 b h.0, le-leb b 57 h.1)
 
 -- a list is taken with its schedule
 pub list_taken : {bytes : List ℕ} {s : Schedule} → IsList bytes s → read_text bytes ≡ record { number = 0; place = 0; schedule = s }
@@ -116,7 +116,7 @@ no_zero p t s rest = refl
 
 no_fourth : (g b p t : ℕ) (s : Schedule) (rest : List ℕ) → 100 ≤ g → Digit b → read_from g p t s (b ∷ rest) ≡ refusal 3 p
 unfolding read_from
-no_fourth g b p t s rest h d = simp (is_digit_lem b d, ne_eqb g 0 (λ z. omega arith), le-ltb g 100 h)
+no_fourth g b p t s rest h d = simp (a_digit b d, ne_eqb g 0 (λ z. omega arith), le-ltb g 100 h)
 
 nothing_left : (g p t : ℕ) (s : Schedule) → read_from g p t s [] ≡ refusal 1 p
 unfolding read_from
