@@ -11,7 +11,8 @@ use Rattle.schedule.proofs.Expired.{expired_from, known_until, expired_past}
 use Rattle.schedule.proofs.Gaps.{later, parts}
 use Rattle.schedule.proofs.Formed.{in_use}
 use Rattle.schedule.proofs.Extension.{tests, fails}
-use Rattle.schedule.proofs.InWords.{AllFrom, ExtendsBy, extends_exactly, rising_from}
+use Rattle.schedule.specs.Rules.{AllFrom, ExtendsBy}
+use Rattle.schedule.proofs.InWords.{extends_exactly, rising_from}
 use Rattle.schedule.proofs.Meant.{count_is, count_room, expiry_is, month_word_lem, sign_word, leap_at_lem}
 use Rattle.schedule.proofs.WordLayout.{month_in_place, sign_in_place}
 

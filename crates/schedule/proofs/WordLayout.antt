@@ -8,6 +8,7 @@ use Rattle.schedule.specs.declared.Sign.{Sign}
 use Rattle.schedule.specs.declared.Sign.TheVariants.{Positive, Negative}
 use Rattle.schedule.specs.Schedule.{Leap, Schedule, month_start, end_day, no_leap, gaps_fit, well_formed}
 use Rattle.schedule.specs.WordLayout.{count_word, month_word, sign_word, sign_of, leap_by, leap_at, leaps_in, laid_out, same_words, word_of_sign, leap_words, zeroes, words_of}
+use Rattle.schedule.specs.Rules.{Words}
 use Rattle.calendar.proofs.Laws.{start_last, start_lt}
 use Rattle.schedule.proofs.Gaps.{later, before_end, parts}
 
@@ -139,17 +140,7 @@ module _ (s : Schedule) (room : length s.leaps ≤ 256) where
         length-replicate {A = ℕ} (512 - 2 * length s.leaps) 0,
       )
 
--- the words of a schedule in numbers: word 2 i is the month of leap i, and word 2 i + 1 its sign, 0 if it is positive and 1 if it is negative; after
--- the leaps 0 up to word 511, so that a place not in use holds month 0 and a positive sign; word 512 is the count, and word 513 the expiry day
-pub record Words (s : Schedule) (words : List ℕ) : Type 0 where
-  pub all : length words ≡ 514
-  pub months : (i : ℕ) → i < length s.leaps → get_or words (2 * i) 0 ≡ (get_or s.leaps i no_leap).month
-  pub positive : (i : ℕ) → i < length s.leaps → (get_or s.leaps i no_leap).sign ≡ Positive → get_or words (2 * i + 1) 0 ≡ 0
-  pub negative : (i : ℕ) → i < length s.leaps → (get_or s.leaps i no_leap).sign ≡ Negative → get_or words (2 * i + 1) 0 ≡ 1
-  pub unused : (k : ℕ) → 2 * length s.leaps ≤ k → k < 512 → get_or words k 0 ≡ 0
-  pub count : get_or words 512 0 ≡ length s.leaps
-  pub expiry : get_or words 513 0 ≡ s.expiry
-
+-- the words of a schedule are so in the paper's numbers
 pub in_words : (s : Schedule) → length s.leaps ≤ 256 → Words s (words_of s)
 in_words s room =
     record {
