@@ -16,6 +16,7 @@ use Rattle.clock.specs.Smoothed.{nanos_per_day, uts, utc_of}
 use Rattle.clock.specs.Known.{last_day, uts_cutoff, nanos_cutoff}
 use Rattle.refusals.specs.Answer.{given}
 use Rattle.clock.specs.Question.{utc_to_uts, uts_to_utc}
+use Rattle.clock.specs.Rules.{GreatestNotAbove}
 use Rattle.clock.proofs.Tai.{length_least}
 use Rattle.clock.proofs.Uts.{uts_is, uts_rises, uts_within, uts_plain}
 use Rattle.clock.proofs.Checks.{Sure, instant_passed, on_utc, utc_answered, on_uts}
@@ -84,13 +85,6 @@ uts_undone s day t u h =
     ⊎_elim (λ q. inl q) (λ (q : (day ≡ last_day s) × (t < uts_cutoff)). inr (q.0, omega (arith, uts_plain w t (omega arith)))) k.sure in
     instant_passed s nanos_per_day nanos_cutoff day u (record { well = k.well; from = k.from; below = omega (arith, uts_within w t k.below); sure = sure })
     ∙ ap given (sym (back_is w u t k.below (omega arith) (λ j a b. omega (arith, uts_rises w t j a b))))
-
--- t has a UTS that is not above u, and no later time of the day has
-pub record GreatestNotAbove (s : Schedule) (day u t : ℕ) : Type 0 where
-  pub at : ℕ
-  pub answered : utc_to_uts s day t ≡ given at
-  pub not_above : at ≤ u
-  pub greatest : (j v : ℕ) → utc_to_uts s day j ≡ given v → v ≤ u → j ≤ t
 
 -- UTS to UTC gives the greatest t of that day whose UTS is not above the one given
 pub greatest_not_above : (s : Schedule) (day u t : ℕ) → uts_to_utc s day u ≡ given t → GreatestNotAbove s day u t

@@ -7,7 +7,7 @@ use Prim.Native.Nat.{ℕ, suc, ◌+◌, ◌-◌, ◌*◌, ◌≤◌, ◌<◌}
 use native.Mathlib.Decide.{dec_lt}
 use native.Mathlib.Omega.{arith}
 use lib.Dec.{ltb}
-use lib.IntN.{ℤ, pos, negsuc, sub_ℕ, neg_ℤ-neg_ℤ, +ℤ_idr, +ℤ-neg_ℤ_cancel, ◌+ℤ◌, ◌-ℤ◌, ◌*ℤ◌}
+use lib.IntN.{pos, negsuc, sub_ℕ, neg_ℤ-neg_ℤ, +ℤ_idr, +ℤ-neg_ℤ_cancel, ◌+ℤ◌, ◌-ℤ◌, ◌*ℤ◌}
 use borrow.Author.Tests.{lt-ltb, le-ltb}
 use Rattle.schedule.specs.declared.Sign.TheVariants.{Positive, Negative}
 use Rattle.schedule.specs.Schedule.{Schedule, well_formed}
@@ -19,6 +19,7 @@ use Rattle.clock.specs.Smoothed.{smoothing, minus, uts}
 use Rattle.clock.specs.Known.{tai_cutoff}
 use Rattle.refusals.specs.Answer.{given}
 use Rattle.clock.specs.Question.{utc_to_tai}
+use Rattle.clock.specs.Rules.{leap_sign}
 use Rattle.clock.proofs.Tally.{tally}
 use Rattle.clock.proofs.Tallied.{plus_negative, plus_times, dtai_tallied, days_exact, tai_tallied}
 use Rattle.clock.proofs.Leaps.{part}
@@ -47,12 +48,6 @@ both_more a b =
 
 minus_less : (a b : ℕ) → sub_ℕ a (b + 1) ≡ sub_ℕ a b -ℤ pos 1
 minus_less a b = sym (ap (λ z. z -ℤ pos 1) (sym (both_more a b) ∙ minus_more a (b + 1)) ∙ +ℤ-neg_ℤ_cancel (sub_ℕ a (b + 1)) (pos 1))
-
--- w, which is +1, -1 or 0 for the leap ending the day
-abbrev pub leap_sign : Ending → ℤ
-leap_sign Ordinary = pos 0
-leap_sign Inserted = pos 1
-leap_sign Deleted = negsuc 0
 
 -- what a day's end makes of DTAI, by the tallies of the next day
 next_by : (s : Schedule) (day : ℕ) (w : Ending) → tally Positive s.leaps (day + 1) ≡ tally Positive s.leaps day + part Positive w
@@ -116,6 +111,11 @@ uts_exact w t h = go (ltb (day_length w - t) smoothing)
         ≡ cond b (pos (1000 * t) -ℤ leap_sign w *ℤ pos (smoothing - (day_length w - t))) (pos (1000 * t))
     go true = minus_exact w (1000 * t) (smoothing - (day_length w - t)) (omega (arith, length_least w))
     go false = refl
+
+-- that formula with its numbers written out, as the paper has them
+pub uts_in_numbers : (w : Ending) (t : ℕ) → t < day_length w
+    → pos (uts w t) ≡ cond (ltb (day_length w - t) 1_000_000_000) (pos (1000 * t) -ℤ leap_sign w *ℤ pos (1_000_000_000 - (day_length w - t))) (pos (1000 * t))
+uts_in_numbers w t h = uts_exact w t h
 
 -- in an inserted second TAI is still taken with the DTAI of that day, and the new one, from the next day on, is 1 more
 pub old_dtai_in_leap : (s : Schedule) (day t x : ℕ) → utc_to_tai s day t ≡ given x → micros_per_day ≤ t

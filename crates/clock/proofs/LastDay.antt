@@ -70,7 +70,7 @@ module _ (s : Schedule) (w : well_formed s ≡ true) where
   -- ---- the expiry is no first of a month
 
   module _ (inside : (m : ℕ) → month_start m ≢ s.expiry) where
-    whole : fully_known (last_day s) ≡ true
+    pub whole : fully_known (last_day s) ≡ true
     unfolding fully_known starts_month
     whole = rw next (ap not (ne_eqb (month_start (month_of s.expiry)) s.expiry (inside (month_of s.expiry))))
 
@@ -110,7 +110,7 @@ module _ (s : Schedule) (w : well_formed s ≡ true) where
     beyond_uts t h = beyond uts_cutoff t (uts (ending s (s.expiry - 1)) t) h
 
     -- TAI to UTC goes to the end of that day, and no further
-    end_whole : tai_end s ≡ tai s (s.expiry - 1) 86_400_000_000
+    pub end_whole : tai_end s ≡ tai s (s.expiry - 1) 86_400_000_000
     unfolding tai_end
     end_whole = rw whole
 
@@ -123,7 +123,7 @@ module _ (s : Schedule) (w : well_formed s ≡ true) where
   -- ---- the expiry is the first day of a month
 
   module _ (m : ℕ) (first : month_start m ≡ s.expiry) where
-    cut : fully_known (last_day s) ≡ false
+    pub cut : fully_known (last_day s) ≡ false
     unfolding fully_known
     cut = rw (next, ← first) (ap not (starts_month_lem (within m (omega (arith, (parts s w).end)))))
 
@@ -152,7 +152,7 @@ module _ (s : Schedule) (w : well_formed s ≡ true) where
       λ c h. unknown nanos_per_day nanos_cutoff u _ cut c h,
     )
 
-    end_cut : tai_end s ≡ tai s (s.expiry - 1) 86_399_000_000
+    pub end_cut : tai_end s ≡ tai s (s.expiry - 1) 86_399_000_000
     unfolding tai_end
     end_cut = rw cut
 

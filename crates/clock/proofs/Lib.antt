@@ -10,8 +10,10 @@ pub mod Instant
 pub mod Back
 pub mod Rise
 pub mod Exact
+pub mod Lengths
 pub mod Taken
 pub mod LastDay
+pub mod InOrder
 pub mod Agree
 pub mod Differ
 pub mod Numbers

@@ -46,7 +46,7 @@ pub record Placed (ls : List Leap) (day n : ℕ) : Type 0 where
 -- ---- how the day ends
 
 -- the day before none of the leaps takes effect ends as usual
-ending_usual : (ls : List Leap) (next : ℕ) → ((i : ℕ) → i < length ls → month_start (leap_month ls i) ≢ next) → ending_before ls next ≡ Ordinary
+pub ending_usual : (ls : List Leap) (next : ℕ) → ((i : ℕ) → i < length ls → month_start (leap_month ls i) ≢ next) → ending_before ls next ≡ Ordinary
 ending_usual [] next h = refl
 ending_usual (l ∷ ls) next h =
     rw (ne_eqb (month_start l.month) next (h 0 (omega arith))) (ending_usual ls next (λ i k. h (suc i) (omega arith)))

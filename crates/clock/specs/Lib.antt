@@ -7,3 +7,4 @@ pub mod Question
 pub mod Taken
 pub mod Lists
 pub mod Answers
+pub mod Rules

@@ -6,12 +6,13 @@ use native.Mathlib.Decide.{dec_lt}
 use Rattle.schedule.specs.Schedule.{Leap, last_month, month_start, no_leap, is_expired, gaps_fit, well_formed}
 use Rattle.schedule.specs.WordLayout.{count_word, expiry_word, month_word, sign_of, meant, word_of_sign}
 use Rattle.schedule.specs.Extends.{Extends, extends}
+use Rattle.schedule.specs.Rules.{AllFrom, ExtendsBy}
 use Rattle.schedule.proofs.Cases.{by_bool}
 use Rattle.schedule.proofs.Expired.{expired_from, known_until, expired_past}
 use Rattle.schedule.proofs.Gaps.{later, parts}
 use Rattle.schedule.proofs.Formed.{in_use}
 use Rattle.schedule.proofs.Extension.{tests, fails}
-use Rattle.schedule.proofs.InWords.{AllFrom, ExtendsBy, extends_exactly, rising_from}
+use Rattle.schedule.proofs.InWords.{extends_exactly, rising_from}
 use Rattle.schedule.proofs.Meant.{count_is, count_room, expiry_is, month_word_lem, sign_word, leap_at_lem}
 use Rattle.schedule.proofs.WordLayout.{month_in_place, sign_in_place}
 

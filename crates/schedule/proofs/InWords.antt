@@ -6,6 +6,7 @@ use Rattle.calendar.proofs.Laws.{start_from, start_lt, start_le, month_most, mon
 use Rattle.schedule.specs.Schedule.{Leap, Schedule, month_start, month_of, is_expired, gaps_fit, last_leap, rounded_down, leaves_gap, well_formed}
 use Rattle.schedule.specs.WordLayout.{meant}
 use Rattle.schedule.specs.Extends.{below, Extends}
+use Rattle.schedule.specs.Rules.{Rise, WellFormed, AllFrom, ExtendsBy}
 use Rattle.schedule.proofs.Cases.{by_bool}
 use Rattle.schedule.proofs.Expired.{is_expired_lem, not_expired, expired_from}
 use Rattle.schedule.proofs.Gaps.{fits_lt, fits_le, expiry_after, expiry_within, last_fits, first, later, before_end, parts}
@@ -15,20 +16,6 @@ use Rattle.schedule.proofs.Rounded.{last_before}
 use Rattle.schedule.proofs.Meant.{expiry_is}
 
 -- ---- well formed
-
--- the leap months rise by 1 to 999, from a month on
-abbrev pub Rise : ℕ → List Leap → Type 0
-Rise from [] = Unit {0}
-Rise from (l ∷ ls) = (from < l.month) × (l.month ≤ from + 999) × Rise l.month ls
-
--- at most 256 leaps, whose months rise by 1 to 999 from month 0 on; an expiry later than the first day of the last leap's month (of month 0 if there
--- is none), at most 999 months after it by month number, and at most 114366
-pub record WellFormed (s : Schedule) : Type 0 where
-  pub few : length s.leaps ≤ 256
-  pub rise : Rise 0 s.leaps
-  pub after : month_start (last_leap 0 s.leaps) < s.expiry
-  pub near : month_of s.expiry - last_leap 0 s.leaps ≤ 999
-  pub end : s.expiry ≤ 114_366
 
 gaps_rise : (from : ℕ) (ls : List Leap) (e : ℕ) → gaps_fit from ls e ≡ true → Rise from ls
 gaps_rise from [] e f = tt
@@ -107,18 +94,6 @@ no_gap_exactly s w =
     )
 
 -- ---- extends
-
--- every leap is in a month that starts on a day or later
-abbrev pub AllFrom : ℕ → List Leap → Type 0
-AllFrom day [] = Unit {0}
-AllFrom day (l ∷ ls) = (day ≤ month_start l.month) × AllFrom day ls
-
--- the longer list has the leaps of the shorter one, then only leaps in months that start on the shorter one's expiry day or later; its expiry is no
--- earlier
-pub record ExtendsBy (longer shorter : Schedule) (further : List Leap) : Type 0 where
-  pub same : longer.leaps ≡ shorter.leaps ++ further
-  pub from : AllFrom shorter.expiry further
-  pub later : shorter.expiry ≤ longer.expiry
 
 -- leaps after a month that starts on the day or later
 pub rising_from : (day from : ℕ) (ls : List Leap) (e : ℕ) → gaps_fit from ls e ≡ true → day ≤ month_start from → AllFrom day ls

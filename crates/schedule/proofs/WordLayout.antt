@@ -1,6 +1,6 @@
 -- The words of a schedule, place by place, and the schedule that words mean.
 -- Assumes nothing.
-use Rattle.std.proofs.Common.{◌≡◌, ℕ, zero, suc, ◌+◌, ◌-◌, ◌*◌, ◌<◌, ◌≤◌, true, eqb, List, [], ◌∷◌, ◌++◌, length, get_or, take, drop, sym, refl, ap, ◌∙◌, le_of_suc-le-suc, not-suc-le-zero, arith, length-append, length-take, get_or-drop, get_or-take, get_or-append-add, eq-eqb, eqb-true}
+use Rattle.std.proofs.Common.{◌≡◌, ℕ, zero, suc, ◌+◌, ◌-◌, ◌*◌, ◌/◌, ◌%◌, ◌<◌, ◌≤◌, true, eqb, ◌↔◌, List, [], ◌∷◌, ◌++◌, length, get_or, take, drop, sym, refl, ap, ◌∙◌, subst, le_of_suc-le-suc, not-suc-le-zero, arith, length-append, length-take, get_or-drop, get_or-take, get_or-append-add, ext_get_or, eq-eqb, eqb-true}
 use mathlib.Core.Bool.{and-eq-true_iff}
 use native.Mathlib.Decide.{dec_lt}
 use lib.ListN.{length-replicate}
@@ -8,6 +8,7 @@ use Rattle.schedule.specs.declared.Sign.{Sign}
 use Rattle.schedule.specs.declared.Sign.TheVariants.{Positive, Negative}
 use Rattle.schedule.specs.Schedule.{Leap, Schedule, month_start, end_day, no_leap, gaps_fit, well_formed}
 use Rattle.schedule.specs.WordLayout.{count_word, month_word, sign_word, sign_of, leap_by, leap_at, leaps_in, laid_out, same_words, word_of_sign, leap_words, zeroes, words_of}
+use Rattle.schedule.specs.Rules.{Words}
 use Rattle.calendar.proofs.Laws.{start_last, start_lt}
 use Rattle.schedule.proofs.Gaps.{later, before_end, parts}
 
@@ -139,17 +140,7 @@ module _ (s : Schedule) (room : length s.leaps ≤ 256) where
         length-replicate {A = ℕ} (512 - 2 * length s.leaps) 0,
       )
 
--- the words of a schedule in numbers: word 2 i is the month of leap i, and word 2 i + 1 its sign, 0 if it is positive and 1 if it is negative; after
--- the leaps 0 up to word 511, so that a place not in use holds month 0 and a positive sign; word 512 is the count, and word 513 the expiry day
-pub record Words (s : Schedule) (words : List ℕ) : Type 0 where
-  pub all : length words ≡ 514
-  pub months : (i : ℕ) → i < length s.leaps → get_or words (2 * i) 0 ≡ (get_or s.leaps i no_leap).month
-  pub positive : (i : ℕ) → i < length s.leaps → (get_or s.leaps i no_leap).sign ≡ Positive → get_or words (2 * i + 1) 0 ≡ 0
-  pub negative : (i : ℕ) → i < length s.leaps → (get_or s.leaps i no_leap).sign ≡ Negative → get_or words (2 * i + 1) 0 ≡ 1
-  pub unused : (k : ℕ) → 2 * length s.leaps ≤ k → k < 512 → get_or words k 0 ≡ 0
-  pub count : get_or words 512 0 ≡ length s.leaps
-  pub expiry : get_or words 513 0 ≡ s.expiry
-
+-- the words of a schedule stand as the paper has them, in its numbers
 pub in_words : (s : Schedule) → length s.leaps ≤ 256 → Words s (words_of s)
 in_words s room =
     record {
@@ -161,6 +152,44 @@ in_words s room =
       count = count_of_words s room;
       expiry = expiry_of_words s room;
     }
+
+-- and no other words do
+module _ (s : Schedule) (room : length s.leaps ≤ 256) (words : List ℕ) (w : Words s words) where
+  month_only : (k i : ℕ) → k ≡ 2 * i → i < length s.leaps → get_or words k 0 ≡ get_or (words_of s) k 0
+  month_only k i e h = rw e (w.months i h ∙ sym (month_of_words s room i h))
+
+  sign_said : (i : ℕ) → i < length s.leaps → (g : Sign) → (get_or s.leaps i no_leap).sign ≡ g → get_or words (2 * i + 1) 0 ≡ word_of_sign g
+  sign_said i h Positive e = w.positive i h e
+  sign_said i h Negative e = w.negative i h e
+
+  sign_only : (k i : ℕ) → k ≡ 2 * i + 1 → i < length s.leaps → get_or words k 0 ≡ get_or (words_of s) k 0
+  sign_only k i e h = rw e (sign_said i h (get_or s.leaps i no_leap).sign refl ∙ sym (sign_of_words s room i h))
+
+  each_only : (k : ℕ) → k < 514 → get_or words k 0 ≡ get_or (words_of s) k 0
+  each_only k h =
+      elim (dec_lt k (2 * length s.leaps)) [
+        | yes l ↦
+            elim (dec_lt (k % 2) 1) [
+              | yes even ↦ month_only k (k / 2) (omega arith) (omega arith)
+              | no odd ↦ sign_only k (k / 2) (omega arith) (omega arith)
+            ]
+        | no l ↦
+            elim (dec_lt k 512) [
+              | yes a ↦ w.unused k (omega arith) a ∙ sym (unused_words s room k (omega arith) a)
+              | no a ↦
+                  elim (dec_lt k 513) [
+                    | yes b ↦ let e : k ≡ 512 = omega arith in rw e (w.count ∙ sym (count_of_words s room))
+                    | no b ↦ let e : k ≡ 513 = omega arith in rw e (w.expiry ∙ sym (expiry_of_words s room))
+                  ]
+            ]
+      ]
+
+  words_only : words ≡ words_of s
+  words_only = ext_get_or 0 words (words_of s) (w.all ∙ sym (all_words s room)) (λ k h. each_only k (omega (arith, w.all)))
+
+-- so words are those of a schedule exactly where they stand like that
+pub words_exactly : (s : Schedule) → length s.leaps ≤ 256 → (words : List ℕ) → Words s words ↔ (words ≡ words_of s)
+words_exactly s room words = (λ w. words_only s room words w, λ e. subst (λ (ws : List ℕ). Words s ws) (sym e) (in_words s room))
 
 -- ---- the leaps that words lay out
 

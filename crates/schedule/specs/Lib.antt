@@ -3,3 +3,4 @@ pub mod Extends
 pub mod WordLayout
 pub mod Answers
 pub mod Private
+pub mod Rules
