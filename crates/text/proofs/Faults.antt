@@ -12,7 +12,7 @@ use Rattle.schedule.proofs.Cases.{by_bool, by_cond}
 use Rattle.text.specs.declared.Mark.TheVariants.{Leaps, Expires, Neither}
 use Rattle.text.specs.Bytes.{is_digit, digit_of, mark_of, sign_byte}
 use Rattle.text.specs.Read.{may_follow, at_end, read_from, read_text}
-use Rattle.text.specs.Rules.{Digit, NoDigit, IsSign, plus, minus, Due, gap, mark, SoFar, start, then_gap, then_sign, IsList, list, Fault, ends, no_gap, no_mark, zero, fourth_digit, past_2400, leap_257, after_end, Ruled, taken, stopped}
+use Rattle.text.specs.Rules.{Digit, NoDigit, IsSign, plus, minus, Awaited, gap, mark, SoFar, start, then_gap, then_sign, IsList, list, Fault, ends, no_gap, no_mark, zero, fourth_digit, past_2400, leap_257, after_end, Ruled, taken, stopped}
 use Rattle.text.specs.Write.{digits}
 use Rattle.text.proofs.Back.{gap_back, leap_back, end_back}
 use Rattle.text.proofs.Cases.{by_mark_exactly}
@@ -34,7 +34,7 @@ record AfterGap (bytes : List ℕ) (month : ℕ) (leaps : List Leap) : Type 0 wh
   sum : before + gap ≡ month
   goes_on : (rest : List ℕ) → read_text (bytes ++ rest) ≡ read_from gap (length bytes) before (with_no_end leaps) rest
 
-abbrev GoesOn : Due → List ℕ → ℕ → List Leap → Type 0
+abbrev GoesOn : Awaited → List ℕ → ℕ → List Leap → Type 0
 GoesOn gap bytes months leaps = (rest : List ℕ) → read_text (bytes ++ rest) ≡ read_from 0 (length bytes) months (with_no_end leaps) rest
 GoesOn mark bytes months leaps = AfterGap bytes months leaps
 
@@ -42,7 +42,7 @@ sign_is : {b : ℕ} {sign : Sign} → IsSign b sign → b ≡ sign_byte sign
 sign_is plus = refl
 sign_is minus = refl
 
-goes_on : {due : Due} {bytes : List ℕ} {months : ℕ} {leaps : List Leap} → SoFar due bytes months leaps → GoesOn due bytes months leaps
+goes_on : {due : Awaited} {bytes : List ℕ} {months : ℕ} {leaps : List Leap} → SoFar due bytes months leaps → GoesOn due bytes months leaps
 unfolding read_text
 goes_on start = λ rest. refl
 goes_on (then_gap {bytes} {months} {leaps} so g low high) =
@@ -126,7 +126,7 @@ nothing_left g p t s = refl
 pub fault_refused : {bytes : List ℕ} {number place : ℕ} → Fault bytes number place → read_text bytes ≡ record { number = number; place = place; schedule = blank_schedule }
 fault_refused (ends {due} {bytes} {months} {leaps} so) = ap read_text (sym (append-nil bytes)) ∙ early due so
   where
-    early : (due : Due) → SoFar due bytes months leaps → read_text (bytes ++ []) ≡ refusal 1 (length bytes)
+    early : (due : Awaited) → SoFar due bytes months leaps → read_text (bytes ++ []) ≡ refusal 1 (length bytes)
     early gap so = goes_on so [] ∙ nothing_left 0 (length bytes) months (with_no_end leaps)
     early mark so = let a = after_gap so in a.goes_on [] ∙ nothing_left a.gap (length bytes) a.before (with_no_end leaps)
 fault_refused (no_gap {bytes} {months} {leaps} so b rest d) = goes_on so (b ∷ rest) ∙ not_a_gap b (length bytes) months (with_no_end leaps) rest d

@@ -21,12 +21,12 @@ pub data IsSign : ℕ → Sign → Type 0 where
   minus : IsSign 45 Negative
 
 -- "A gap must be followed by a mark, and a sign by a gap again": which of the two is due
-pub data Due : Type 0 where
-  gap : Due
-  mark : Due
+pub data Awaited : Type 0 where
+  gap : Awaited
+  mark : Awaited
 
 -- zero or more of gap and sign, within the limits, and perhaps one more gap: the bytes, what is due after them, their months in all, and the leaps
-pub data SoFar : Due → List ℕ → ℕ → List Leap → Type 0 where
+pub data SoFar : Awaited → List ℕ → ℕ → List Leap → Type 0 where
   start : SoFar gap [] 0 []
   then_gap : {bytes : List ℕ} {months : ℕ} {leaps : List Leap} → SoFar gap bytes months leaps
       → (g : ℕ) → 1 ≤ g → g ≤ 999 → SoFar mark (bytes ++ decimal g) (months + g) leaps
@@ -42,7 +42,7 @@ pub data IsList : List ℕ → Schedule → Type 0 where
 -- what is refused, with its number and its place: the first fault from the left, whatever follows it
 pub data Fault : List ℕ → ℕ → ℕ → Type 0 where
   -- the input ends where a gap or a mark is due: 1, place is the length
-  ends : {due : Due} {bytes : List ℕ} {months : ℕ} {leaps : List Leap} → SoFar due bytes months leaps → Fault bytes 1 (length bytes)
+  ends : {due : Awaited} {bytes : List ℕ} {months : ℕ} {leaps : List Leap} → SoFar due bytes months leaps → Fault bytes 1 (length bytes)
   -- another byte than may stand there: 2, place is that byte
   no_gap : {bytes : List ℕ} {months : ℕ} {leaps : List Leap} → SoFar gap bytes months leaps
       → (b : ℕ) (rest : List ℕ) → NoDigit b → Fault (bytes ++ (b ∷ rest)) 2 (length bytes)
