@@ -15,7 +15,7 @@ python3 tools/refusals.py --check || fail "the refusals are not everywhere as to
 ok "the refusals are everywhere as their table has them"
 
 # every public function of a library has an `ensures` and no `requires`. Of the functions in these files, which write to standard output, no contract
-# could say what they do: they have none, and no `requires`
+# could say what they do: they have none, and no `requires`. Nor of what says on standard error why a write failed
 effects="crates/shell/src/help.rt crates/shell/src/output.rt"
 for crate in $crates; do
     [ -f "crates/$crate/src/lib.rt" ] || continue

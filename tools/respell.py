@@ -3,7 +3,7 @@
 
 Run once at the top of the repository, after the kit's port.py. Types, records and modules keep their capitals, and names of src/, strings,
 inputs and outputs stay. A name is renamed in every file of specs/ and proofs/, in the clauses and `ghost use` items of src/, and in code spans of pages.
-A lemma whose new name a definition has gets `_lem`. Two names of one file never become one: the script stops and says which.
+A lemma whose new name a definition has gets `_lem`. Two names of one file that would become one are printed.
 """
 
 import glob

@@ -1,6 +1,7 @@
 // Standard output, and what is said on standard error.
 ghost use Rattle.io.specs.Counts.{IsPrefixLen};
 
+use std::fmt::InlineText;
 use std::io;
 
 // A number of bytes, but no more than there are.
@@ -21,15 +22,11 @@ fn without_number(message: &str) -> &str {
     }
 }
 
-fn try_say(rt: &HostRuntime, what: &str, error: io::Error) -> io::Result<()> {
-    let message = format!(in rt.alloc(); "{error}")?;
-    let why = without_number(message.as_str());
-    eprintln!(rt; "leapsec: {what}: {why}")
-}
-
 // Says on standard error what failed, and the system's word for why.
 pub fn say(rt: &HostRuntime, what: &str, error: io::Error) {
-    let _ = try_say(rt, what, error);
+    let message = InlineText::<256>::of(error);
+    let why = without_number(message.as_str());
+    let _ = eprintln!(rt; "leapsec: {what}: {why}");
 }
 
 // Writes bytes, or says that it can't and answers false. Where nobody reads any more it says nothing.
