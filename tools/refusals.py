@@ -57,20 +57,47 @@ def wrapped(text, width):
 
 
 def code(refusals):
-    out = ["// The refusals by name. An accepted answer carries 0.", "#![tactic(auto)]"]
+    out = [
+        "// The refusals by name, each with its number. An accepted answer carries 0.",
+        "#![tactic(auto)]",
+        "",
+        "ghost use Rattle.std.specs.Prelude.{◌≡◌};",
+        "ghost use Rattle.refusals.specs.Refusals.{number_of};",
+        "",
+        "// Why an answer is refused.",
+        "#[derive(Clone, Copy, Debug, PartialEq, Eq)]",
+        "pub enum Refusal {",
+    ]
     for r in refusals:
-        out += ["", f"// {sentence(r.meaning())}.", f"pub const {r.name}: u8 = {r.number};"]
+        out += [f"    // {sentence(r.meaning())}.", f"    {r.camel()} = {r.number},"] + ([""] if r is not refusals[-1] else [])
+    out += [
+        "}",
+        "",
+        "impl Refusal {",
+        "    // Its number in the paper.",
+        "    pub fn number(self) -> u8",
+        "        ensures { result ≡ number_of self }",
+        "    {",
+        "        self as u8",
+        "    }",
+        "}",
+    ]
     return "\n".join(out) + "\n"
 
 
 def definitions(refusals):
+    names = ", ".join(r.camel() for r in refusals)
     out = [
         "-- The numbers of the refusals by name, 01's and those that the change requests add. An accepted answer carries 0.",
         "-- Assumes nothing: these are definitions.",
         "use Rattle.std.specs.Prelude.{ℕ}",
+        "use Rattle.refusals.specs.declared.Refusal.{Refusal}",
+        f"use Rattle.refusals.specs.declared.Refusal.TheVariants.{{{names}}}",
     ]
     for r in refusals:
         out += ["", f"-- {r.number}: {r.meaning()}", f"abbrev pub {r.snake()} : ℕ", f"{r.snake()} = {r.number}"]
+    out += ["", "-- the number of a refusal", "abbrev pub number_of : Refusal → ℕ"]
+    out += [f"number_of {r.camel()} = {r.snake()}" for r in refusals]
     return "\n".join(out) + "\n"
 
 

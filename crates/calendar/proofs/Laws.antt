@@ -11,6 +11,7 @@ use native.Mathlib.Decide.{dec_lt}
 use borrow.Author.Tests.{leb-true, leb-false, le-leb, lt-leb, lt-ltb, le-ltb, eqb-true, eqb-false, eq-eqb, ne_eqb}
 use lib.Dec.{leb}
 use lib.ListN.{length, get_or}
+use Rattle.refusals.specs.Answer as answer
 use Rattle.refusals.specs.Refusals.{before1972, not_known}
 use Rattle.calendar.specs.Calendar.{
   first_day,
@@ -24,11 +25,8 @@ use Rattle.calendar.specs.Calendar.{
   InMonth,
   month_of,
   starts_month,
-  found,
-  refused,
   month_at,
 }
-use Rattle.calendar.specs.declared.Lookup.{Lookup}
 use Rattle.calendar.proofs.Greatest.{greatest_within, greatest_none, greatest_found, greatest_is}
 use Rattle.calendar.proofs.Gregorian.{closed_form}
 
@@ -218,26 +216,26 @@ no_start {d} e m h z = eqb-false (month_start (month_of d)) d e (ap month_start 
 
 -- ---- the lookup's three answers
 
-pub at_early : {d : ℕ} → d < first_day → month_at d ≡ refused before1972
+pub at_early : {d : ℕ} → d < first_day → month_at d ≡ answer.refused before1972
 unfolding month_at
 at_early {d} h = simp (lt-leb first_day d h)
 
-pub at_late : {d : ℕ} → end_day ≤ d → month_at d ≡ refused not_known
+pub at_late : {d : ℕ} → end_day ≤ d → month_at d ≡ answer.refused not_known
 unfolding month_at
 at_late {d} h = simp (le-leb first_day d (omega arith), le-ltb d end_day h)
 
-pub at_given : {d : ℕ} → first_day ≤ d → d < end_day → month_at d ≡ found (month_of d)
+pub at_given : {d : ℕ} → first_day ≤ d → d < end_day → month_at d ≡ answer.given (month_of d)
 unfolding month_at
 at_given {d} p q = simp (le-leb first_day d p, lt-ltb d end_day q)
 
 -- the answer r about day d is one of the three
-pub data Answer (d : ℕ) (r : Lookup) : Type 0 where
-  early : d < first_day → r ≡ refused before1972 → Answer d r
-  late : end_day ≤ d → r ≡ refused not_known → Answer d r
-  given : first_day ≤ d → d < end_day → r ≡ found (month_of d) → Answer d r
+pub data Answer (d : ℕ) (r : answer.Answer ℕ) : Type 0 where
+  early : d < first_day → r ≡ answer.refused before1972 → Answer d r
+  late : end_day ≤ d → r ≡ answer.refused not_known → Answer d r
+  given : first_day ≤ d → d < end_day → r ≡ answer.given (month_of d) → Answer d r
 
 -- whoever has the lookup's answer knows which of the three it is
-pub answered : {d : ℕ} {r : Lookup} → r ≡ month_at d → Answer d r
+pub answered : {d : ℕ} {r : answer.Answer ℕ} → r ≡ month_at d → Answer d r
 answered {d} e =
     elim (dec_lt d first_day) [
       | yes l ↦ early l (e ∙ at_early l)

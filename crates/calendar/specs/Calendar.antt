@@ -1,9 +1,9 @@
 -- "Months, days and the schedule": the Gregorian calendar from January 1972 on, in month numbers and Modified Julian Days.
 -- Assumes nothing: these are definitions.
-use Rattle.std.specs.Prelude.{Bool, true, false, cond, not, ◌&&◌, ◌||◌, List, [], ◌∷◌, ℕ, zero, suc, ◌+◌, ◌/◌, ◌%◌, ◌≤◌, ◌<◌, eqb, leb, ltb, get_or}
+use Rattle.std.specs.Prelude.{Bool, cond, not, ◌&&◌, ◌||◌, List, [], ◌∷◌, ℕ, zero, suc, ◌+◌, ◌/◌, ◌%◌, ◌≤◌, ◌<◌, eqb, leb, ltb, get_or}
+use Rattle.refusals.specs.Answer.{Answer, given, require}
 use Rattle.refusals.specs.Refusals.{before1972, not_known}
 use Rattle.calendar.specs.Greatest.{greatest}
-use Rattle.calendar.specs.declared.Lookup.{Lookup}
 
 -- month 0 starts on 1 January 1972
 abbrev pub first_day : ℕ
@@ -60,22 +60,9 @@ pub record MonthOrNext (d m : ℕ) : Type 0 where
   pub low : month_of d ≤ m
   pub high : m ≤ month_of d + 1
 
--- the answer for a day in month m
-abbrev pub found : ℕ → Lookup
-found m = record { number = 0; month = m }
-
--- the answer for a day refused with number n: the month is then 0
-abbrev pub refused : ℕ → Lookup
-refused n = record { number = n; month = 0 }
-
--- the day is refused with number n unless the test passes
-abbrev require : Bool → ℕ → Lookup → Lookup
-require true n l = l
-require false n l = refused n
-
 -- the month of any day: refused with 8 before 1972, and with 10 from the start of month 2400 on
-unfoldable pub month_at : ℕ → Lookup
+unfoldable pub month_at : ℕ → Answer ℕ
 month_at d =
     require (leb first_day d) before1972
     (require (ltb d end_day) not_known
-    (found (month_of d)))
+    (given (month_of d)))

@@ -3,11 +3,12 @@
 #![tactic(auto)]
 
 ghost use Rattle.std.specs.Prelude.{◌≡◌, min, ◌≤◌, ◌<◌};
-ghost use Rattle.calendar.specs.Calendar.{first_day, last_month, end_day, month_start, month_of, MonthOrNext, starts_month, month_at, found, refused};
+ghost use Rattle.refusals.specs.Answer.{answer_of};
+ghost use Rattle.calendar.specs.Calendar.{first_day, last_month, end_day, month_start, month_of, MonthOrNext, starts_month, month_at};
 
 mod table;
 
-use refusals::{BEFORE_1972, NOT_KNOWN};
+use refusals::Refusal;
 use table::MONTH_STARTS;
 
 // Month 0 starts on 1 January 1972.
@@ -19,21 +20,11 @@ pub const LAST_MONTH: u16 = 2400;
 // Month 2400 starts on 1 January 2172.
 pub const END_DAY: u64 = 114_366;
 
-// The answer about a day: number 0 and its month, or the refusal's number and month 0.
-#[derive(Clone, Copy)]
-pub struct Lookup {
-    pub number: u8,
-    pub month: u16,
-}
-
 // The month itself, or month 2400 for one past it.
 fn at_most_last(month: u32) -> u16
     ensures { result ≡ min month last_month }
 {
-    if month < LAST_MONTH as u32 {
-        return month as u16;
-    }
-    LAST_MONTH
+    month.min(u32::from(LAST_MONTH)) as u16
 }
 
 // The table's entry for a month. No other function reads the table: each read builds all of it on the stack.
@@ -48,7 +39,7 @@ fn entry(month: u16) -> u32
 pub fn month_start(month: u32) -> u64
     ensures { result ≡ month_start (min month last_month) }
 {
-    entry(at_most_last(month)) as u64
+    u64::from(entry(at_most_last(month)))
 }
 
 // The day on which a month starts, computed. A year is taken from March on here, so that a leap day is its last.
@@ -57,7 +48,7 @@ fn computed_start(month: u16) -> u64
     ensures { result ≡ month_start month }
 {
     // Months after March 1971, which comes ten months before month 0.
-    let n = month as u64 + 10;
+    let n = u64::from(month) + 10;
     let year = 1971 + n / 12;
     // Days from 1 March of year 0 to 1 March of that year: 365 a year, one more every 4 years, one less every 100, one more every 400.
     let to_year = 365 * year + year / 4 - year / 100 + year / 400;
@@ -71,7 +62,7 @@ fn computed_start(month: u16) -> u64
 pub fn first_day(month: u16) -> u64
     ensures { result ≡ month_start (min month last_month) }
 {
-    computed_start(at_most_last(month as u32))
+    computed_start(at_most_last(u32::from(month)))
 }
 
 // An estimate of the month of a day, made with no table and no loop: that month or the next one. 400 years have 4,800 months and 146,097 days,
@@ -95,31 +86,18 @@ fn month_by_estimate(day: u64) -> u16
     month
 }
 
-// The answer for a day in a month.
-fn found(month: u16) -> Lookup
-    ensures { result ≡ found month }
-{
-    Lookup { number: 0, month }
-}
-
-// The answer for a day that is refused.
-fn refused(number: u8) -> Lookup
-    ensures { result ≡ refused number }
-{
-    Lookup { number, month: 0 }
-}
-
 // The month of a day. It is refused with 8 before 1972, and with 10 from the start of month 2400 on.
-pub fn month_of(day: u64) -> Lookup
-    ensures { result ≡ month_at day }
+#[tactic(auto, unfolding(crate::specs::Calendar::month_at))]
+pub fn month_of(day: u64) -> Result<u16, Refusal>
+    ensures { answer_of result ≡ month_at day }
 {
     if day < FIRST_DAY {
-        return refused(BEFORE_1972);
+        return Err(Refusal::Before1972);
     }
     if END_DAY <= day {
-        return refused(NOT_KNOWN);
+        return Err(Refusal::NotKnown);
     }
-    found(month_by_estimate(day))
+    Ok(month_by_estimate(day))
 }
 
 // The last month, up to month 2400, that has started by a day; month 0 where none has.

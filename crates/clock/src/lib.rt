@@ -2,8 +2,6 @@
 // asked and answered with: DTAI for a date, UTC to TAI and back, UTC to smoothed time (UTS) and back.
 #![tactic(auto)]
 
-pub mod answers; // answers.rt: the number and the values of each kind of answer
-
 // A second in microseconds.
 pub const MICROS_PER_SECOND: u64 = 1_000_000;
 
@@ -35,56 +33,28 @@ pub const UTS_CUTOFF: u64 = 85_399_000_000;
 pub const NANOS_CUTOFF: u64 = 85_399_000_000_000;
 
 // Microseconds of a UTC day.
-#[derive(Clone, Copy)]
+#[derive(Clone, Copy, Debug, PartialEq, Eq)]
 pub struct UtcMicros(pub u64);
 
 // Nanoseconds of a UTS day, which always has 86,400 s.
-#[derive(Clone, Copy)]
+#[derive(Clone, Copy, Debug, PartialEq, Eq)]
 pub struct UtsNanos(pub u64);
 
 // Microseconds from 1972-01-01 00:00:00 TAI.
-#[derive(Clone, Copy)]
+#[derive(Clone, Copy, Debug, PartialEq, Eq)]
 pub struct TaiMicros(pub u64);
 
+// An instant of UTC: an MJD and microseconds of that day.
+#[derive(Clone, Copy, Debug, PartialEq, Eq)]
+pub struct UtcInstant {
+    pub day: u64,
+    pub micros: UtcMicros,
+}
+
 // How a day ends: as usual, with a second inserted, or with its last second deleted.
-#[derive(Clone, Copy)]
+#[derive(Clone, Copy, Debug, PartialEq, Eq)]
 pub enum Ending {
     Ordinary,
     Inserted,
     Deleted,
-}
-
-// DTAI in seconds, or the number of the refusal.
-#[derive(Clone, Copy)]
-pub enum DtaiAnswer {
-    Given(i32),
-    Refused(u8),
-}
-
-// A TAI, or the number of the refusal.
-#[derive(Clone, Copy)]
-pub enum TaiAnswer {
-    Given(TaiMicros),
-    Refused(u8),
-}
-
-// An MJD and microseconds of that day, or the number of the refusal.
-#[derive(Clone, Copy)]
-pub enum UtcAnswer {
-    Given(u64, UtcMicros),
-    Refused(u8),
-}
-
-// A UTS of the same day, or the number of the refusal.
-#[derive(Clone, Copy)]
-pub enum UtsAnswer {
-    Given(UtsNanos),
-    Refused(u8),
-}
-
-// Microseconds of the same UTC day, or the number of the refusal.
-#[derive(Clone, Copy)]
-pub enum MicrosAnswer {
-    Given(UtcMicros),
-    Refused(u8),
 }

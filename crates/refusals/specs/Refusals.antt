@@ -1,6 +1,8 @@
 -- The numbers of the refusals by name, 01's and those that the change requests add. An accepted answer carries 0.
 -- Assumes nothing: these are definitions.
 use Rattle.std.specs.Prelude.{ℕ}
+use Rattle.refusals.specs.declared.Refusal.{Refusal}
+use Rattle.refusals.specs.declared.Refusal.TheVariants.{EndsEarly, NotAllowed, BadGap, PastLastMonth, TooManyLeaps, AfterEnd, OutputShort, Before1972, NoInstant, NotKnown, NotWellFormed, Contradiction, NoGap, NoLine}
 
 -- 1: the list ends early
 abbrev pub ends_early : ℕ
@@ -57,3 +59,20 @@ no_gap = 17
 -- 20: no line of a trace
 abbrev pub no_line : ℕ
 no_line = 20
+
+-- the number of a refusal
+abbrev pub number_of : Refusal → ℕ
+number_of EndsEarly = ends_early
+number_of NotAllowed = not_allowed
+number_of BadGap = bad_gap
+number_of PastLastMonth = past_last_month
+number_of TooManyLeaps = too_many_leaps
+number_of AfterEnd = after_end
+number_of OutputShort = output_short
+number_of Before1972 = before1972
+number_of NoInstant = no_instant
+number_of NotKnown = not_known
+number_of NotWellFormed = not_well_formed
+number_of Contradiction = contradiction
+number_of NoGap = no_gap
+number_of NoLine = no_line

@@ -1,44 +1,60 @@
-// The refusals by name. An accepted answer carries 0.
+// The refusals by name, each with its number. An accepted answer carries 0.
 #![tactic(auto)]
 
-// The list ends early.
-pub const ENDS_EARLY: u8 = 1;
+ghost use Rattle.std.specs.Prelude.{◌≡◌};
+ghost use Rattle.refusals.specs.Refusals.{number_of};
 
-// A byte that is not allowed there.
-pub const NOT_ALLOWED: u8 = 2;
+// Why an answer is refused.
+#[derive(Clone, Copy, Debug, PartialEq, Eq)]
+pub enum Refusal {
+    // The list ends early.
+    EndsEarly = 1,
 
-// A gap malformed or over 999 months.
-pub const BAD_GAP: u8 = 3;
+    // A byte that is not allowed there.
+    NotAllowed = 2,
 
-// Past month 2400, January 2172.
-pub const PAST_LAST_MONTH: u8 = 4;
+    // A gap malformed or over 999 months.
+    BadGap = 3,
 
-// More than 256 leaps.
-pub const TOO_MANY_LEAPS: u8 = 5;
+    // Past month 2400, January 2172.
+    PastLastMonth = 4,
 
-// Something after the end.
-pub const AFTER_END: u8 = 6;
+    // More than 256 leaps.
+    TooManyLeaps = 5,
 
-// The output is shorter than the list, or than the comparison of two lists, or than what a line of a trace may print.
-pub const OUTPUT_SHORT: u8 = 7;
+    // Something after the end.
+    AfterEnd = 6,
 
-// Before 1972: an MJD under 41317, or a TAI under 10,000,000.
-pub const BEFORE_1972: u8 = 8;
+    // The output is shorter than the list, or than the comparison of two lists, or than what a line of a trace may print.
+    OutputShort = 7,
 
-// No such instant.
-pub const NO_INSTANT: u8 = 9;
+    // Before 1972: an MJD under 41317, or a TAI under 10,000,000.
+    Before1972 = 8,
 
-// Expired or not yet known.
-pub const NOT_KNOWN: u8 = 10;
+    // No such instant.
+    NoInstant = 9,
 
-// The schedule is not well formed, or no list in use, in a trace.
-pub const NOT_WELL_FORMED: u8 = 11;
+    // Expired or not yet known.
+    NotKnown = 10,
 
-// Two lists contradict each other.
-pub const CONTRADICTION: u8 = 16;
+    // The schedule is not well formed, or no list in use, in a trace.
+    NotWellFormed = 11,
 
-// Rounding the expiry down to its month leaves a gap of 0.
-pub const NO_GAP: u8 = 17;
+    // Two lists contradict each other.
+    Contradiction = 16,
 
-// No line of a trace.
-pub const NO_LINE: u8 = 20;
+    // Rounding the expiry down to its month leaves a gap of 0.
+    NoGap = 17,
+
+    // No line of a trace.
+    NoLine = 20,
+}
+
+impl Refusal {
+    // Its number in the paper.
+    pub fn number(self) -> u8
+        ensures { result ≡ number_of self }
+    {
+        self as u8
+    }
+}
