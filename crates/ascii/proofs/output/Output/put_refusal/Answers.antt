@@ -6,4 +6,4 @@ use Rattle.ascii.proofs.output.Output.put_refusal.Goals as goal
 
 pub returns : goal.returns
 unfolding refusal
-returns c = up_to (a_byte c.put.ensures) c.put_decimal.ensures (rw c.from.ensures) (omega arith)
+returns c = up_to (a_byte c.put.ensures) c.put_decimal.ensures (rw (c.from.ensures, c.number.ensures)) (omega arith)
