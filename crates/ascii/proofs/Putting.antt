@@ -2,7 +2,7 @@
 -- Assumes nothing.
 use mathlib.Core.Path.{◌≡◌, refl, sym, ap, ◌∙◌}
 use mathlib.Core.List.{List, [], ◌∷◌, ◌++◌, append-nil, append_assoc}
-use Prim.Native.Nat.{ℕ, suc, ◌+◌, ◌*◌, ◌≤◌, ◌<◌, min}
+use Prim.Native.Nat.{ℕ, suc, ◌+◌, ◌*◌, ◌≤◌, ◌<◌}
 use native.Mathlib.Nat.{add-zero, zero-add, add-suc, suc-add}
 use native.Mathlib.Omega.{arith}
 use native.Mathlib.Decide.{dec_le}
@@ -86,6 +86,11 @@ from_start_lem {out} {out'} {bytes} p e = record {
   count = omega (arith, p.next, e);
   holds = p.stored ∙ rw e (fills bytes out.bytes.now);
 }
+
+-- what a caller's bytes hold after an output over them from their start: `before` and `after` are the bytes, and `written` the output's place
+pub held : {out out' : Output} {bytes before after : List ℕ} {written : ℕ} → Puts out out' bytes → out.at ≡ 0 → out.bytes.now ≡ before → after ≡ out'.bytes.now
+    → written ≡ out'.at → Held bytes before after written
+held p start same now place = rw (now, place, ← same) (from_start_lem p start)
 
 -- an output with room for all that is put from its start holds it
 pub whole : {bytes out out' : List ℕ} {written : ℕ} → Held bytes out out' written → length bytes ≤ length out → (written ≡ length bytes) × (take written out' ≡ bytes)
