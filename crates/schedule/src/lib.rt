@@ -171,7 +171,8 @@ fn goes_on(longer: List<'_>, shorter: List<'_>) -> bool
     if n < m {
         return false;
     }
-    if longer.words[..2 * m] != shorter.words[..2 * m] {
+    let (all, first) = (longer.words, shorter.words);
+    if all[..2 * m] != first[..2 * m] {
         return false;
     }
     if m < n {
