@@ -97,6 +97,6 @@ module _ (s : Schedule) (bytes out : List ℕ) where
   refused {A} {n} x e =
       by_bool (well_formed s)
       (λ w.
-          by_bool (leaves_gap s) (λ g. let z = e ∙ can_write s (answer.given x) w g in absurd cc)
-          (λ g. let z = e ∙ no_gap_lem s (answer.given x) w g in let k : n ≡ no_gap = cc in rw k (gapless w g)))
+      by_bool (leaves_gap s) (λ g. let z = e ∙ can_write s (answer.given x) w g in absurd cc)
+      (λ g. let z = e ∙ no_gap_lem s (answer.given x) w g in let k : n ≡ no_gap = cc in rw k (gapless w g)))
       (λ w. let z = e ∙ not_formed s (answer.given x) w in let k : n ≡ not_well_formed = cc in rw k (wrong w))

@@ -1,6 +1,6 @@
 -- How a loop puts the words after the leaps together, by "or".
 -- Assumes nothing.
-use Rattle.std.proofs.Common.{◌≡◌, ℕ, ◌+◌, ◌*◌, ◌<◌, ◌≤◌, List, length, get_or, take, drop, sym, refl, ◌∙◌, ap₂, ⊎_elim, eq-or-lt_of_le, arith, length-take, get_or-drop, get_or-take}
+use Rattle.std.proofs.Common.{◌≡◌, ℕ, ◌+◌, ◌<◌, ◌≤◌, List, length, get_or, take, drop, refl, ap₂, ⊎_elim, eq-or-lt_of_le, arith, length-take, get_or-drop, get_or-take}
 use lib.Bits.{bit_or, or_add_and, and_le_l, and_le_r}
 
 -- the words from one place up to another are 0

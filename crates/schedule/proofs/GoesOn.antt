@@ -6,7 +6,7 @@ use Rattle.std.specs.Str.{bytes_eq}
 use Rattle.std.proofs.lemmas.Slice.Eq.{bytes_eq-Decides}
 use native.Mathlib.Decide.{dec_lt}
 use Rattle.schedule.specs.Schedule.{Leap, last_month, month_start, no_leap, is_expired, gaps_fit, well_formed}
-use Rattle.schedule.specs.WordLayout.{count_word, expiry_word, month_word, sign_of, meant, word_of_sign}
+use Rattle.schedule.specs.WordLayout.{count_word, sign_of, meant, word_of_sign}
 use Rattle.schedule.specs.Extends.{Extends, extends}
 use Rattle.schedule.specs.Rules.{AllFrom, ExtendsBy}
 use Rattle.schedule.proofs.Cases.{by_bool}
@@ -15,7 +15,7 @@ use Rattle.schedule.proofs.Gaps.{later, parts}
 use Rattle.schedule.proofs.Formed.{in_use}
 use Rattle.schedule.proofs.Extension.{tests, fails}
 use Rattle.schedule.proofs.InWords.{extends_exactly, rising_from}
-use Rattle.schedule.proofs.Meant.{all_there, count_is, count_room, expiry_is, month_word_lem, sign_word, leap_at_lem}
+use Rattle.schedule.proofs.Meant.{all_there, count_is, count_room, month_word_lem, sign_word, leap_at_lem}
 use Rattle.schedule.proofs.WordLayout.{month_in_place, sign_in_place}
 
 -- the gaps after leap i
@@ -82,8 +82,8 @@ module _ (a b : List ℕ) (wa : well_formed (meant a) ≡ true) (wb : well_forme
         let tb : length (take n b) ≡ n = length-take-le n b (omega (arith, all_there b wb)) in
         ext_get_or 0 (take n a) (take n b) (ta ∙ sym tb)
         (λ k h.
-            let small : k < n = omega arith in
-            get_or-take n a k 0 small ∙ (each_word k small ∙ sym (get_or-take n b k 0 small)))
+        let small : k < n = omega arith in
+        get_or-take n a k 0 small ∙ (each_word k small ∙ sym (get_or-take n b k 0 small)))
 
     next : count_word b < count_word a → (meant b).expiry ≤ month_start (get_or (meant a).leaps (count_word b) no_leap).month
     next h =

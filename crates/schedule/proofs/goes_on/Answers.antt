@@ -1,9 +1,8 @@
 -- `schedule::goes_on` meets its contract. Assumes nothing.
-use Rattle.std.proofs.Common.{◌≡◌, ◌*◌, ◌≤◌, length, sym, ap, ◌∙◌, arith}
-use Rattle.schedule.specs.Schedule.{Leap, no_leap}
+use Rattle.std.proofs.Common.{◌≡◌, ◌≤◌, sym, ◌∙◌, arith}
 use Rattle.schedule.specs.WordLayout.{count_word, meant}
 use Rattle.schedule.proofs.Meant.{count_is}
-use Rattle.schedule.proofs.GoesOn.{unlike, alike, fewer, others, as_many, tells}
+use Rattle.schedule.proofs.GoesOn.{Same, unlike, alike, fewer, others, as_many, tells}
 use Rattle.schedule.proofs.goes_on.Goals as goal
 
 pub returns-then-n-m : goal.returns-then-n-m
@@ -25,7 +24,7 @@ returns-then-m-n c =
     let b = c.args.shorter in
     let m : c.count-m.result ≡ count_word b.words.now = c.count-m.ensures ∙ count_is b.words.now b.formed in
     let n : c.count-n.result ≡ count_word a.words.now = c.count-n.ensures ∙ count_is a.words.now a.formed in
-    let same = alike (rw m at c.ne.ensures) c.if-ne.false in
+    let same : Same a.words.now b.words.now a.formed b.formed = alike (rw m at c.ne.ensures) c.if-ne.false in
     let later : (meant b.words.now).expiry ≤ (meant a.words.now).expiry = omega (arith, c.expiry-expiry.ensures, c.expiry.ensures, c.if-expiry.false) in
     c.is_expired.ensures
     ∙ tells a.words.now b.words.now a.formed b.formed later (omega (arith, m, n, c.if-n-m.false)) same (omega (arith, m, n, c.if-m-n.true))
@@ -37,6 +36,6 @@ returns c =
     let b = c.args.shorter in
     let m : c.count-m.result ≡ count_word b.words.now = c.count-m.ensures ∙ count_is b.words.now b.formed in
     let n : c.count-n.result ≡ count_word a.words.now = c.count-n.ensures ∙ count_is a.words.now a.formed in
-    let same = alike (rw m at c.ne.ensures) c.if-ne.false in
+    let same : Same a.words.now b.words.now a.formed b.formed = alike (rw m at c.ne.ensures) c.if-ne.false in
     let later : (meant b.words.now).expiry ≤ (meant a.words.now).expiry = omega (arith, c.expiry-expiry.ensures, c.expiry.ensures, c.if-expiry.false) in
     sym (as_many a.words.now b.words.now a.formed b.formed later (omega (arith, m, n, c.if-n-m.false)) same (omega (arith, m, n, c.if-m-n.false)))
