@@ -1,6 +1,6 @@
 -- The answers of a writer: of bytes that fit or do not, and of the list of a schedule.
 -- Assumes nothing.
-use Rattle.std.proofs.Common.{◌≡◌, ℕ, ◌+◌, ◌<◌, ◌≤◌, true, false, List, ◌++◌, length, drop, sym, ap, ◌∙◌, arith, le-ltb, lt-ltb, le-leb}
+use Rattle.std.proofs.Common.{◌≡◌, ℕ, ◌+◌, ◌<◌, ◌≤◌, true, false, List, ◌++◌, length, drop, ap, ◌∙◌, arith, le-ltb, lt-ltb, le-leb}
 use lib.Seq.{sets, sets-eq}
 use borrow.Author.Tests.{lt-leb}
 use Rattle.refusals.specs.Answer as answer
@@ -74,8 +74,8 @@ Answer s bytes out r exit = (r ≡ writing s bytes (length out)) × (exit ≡ wr
 
 module _ (s : Schedule) (bytes out : List ℕ) where
   formed : well_formed s ≡ true → leaves_gap s ≡ true → {r : answer.Answer ℕ} {exit : List ℕ} → Fits bytes out r exit → Answer s bytes out r exit
-  unfolding writing written
-  formed w g f = (f.0 ∙ sym (can_write s (fitting bytes (length out)) w g), rw (w, g) f.1)
+  unfolding writable writing written
+  formed w g f = (simp (w, g) f.0, simp (w, g) f.1)
 
   pub taken : well_formed s ≡ true → leaves_gap s ≡ true → (n : ℕ) → n ≡ length bytes → n ≤ length out → (exit : List ℕ) → exit ≡ sets out 0 bytes
       → Answer s bytes out (answer.given n) exit
@@ -85,12 +85,12 @@ module _ (s : Schedule) (bytes out : List ℕ) where
   short w g n e h = formed w g (no_room bytes out n e h)
 
   pub gapless : well_formed s ≡ true → leaves_gap s ≡ false → Answer s bytes out (answer.refused no_gap) out
-  unfolding writing written
-  gapless w g = (sym (no_gap_lem s (fitting bytes (length out)) w g), simp (w, g))
+  unfolding writable writing written
+  gapless w g = (simp (w, g), simp (w, g))
 
   pub wrong : well_formed s ≡ false → Answer s bytes out (answer.refused not_well_formed) out
-  unfolding writing written
-  wrong w = (sym (not_formed s (fitting bytes (length out)) w), simp w)
+  unfolding writable writing written
+  wrong w = (simp w, simp w)
 
   -- as the code asks: where a list is not writable, that is the refusal
   pub refused : {A : Type 0} {n : ℕ} (x : A) → answer.refused n ≡ writable s (answer.given x) → Answer s bytes out (answer.refused n) out
