@@ -11,8 +11,10 @@ ghost use Rattle.schedule.specs.WordLayout.{count_word, expiry_word, month_word,
 ghost use Rattle.schedule.specs.Answers.{refusal, writable, ReadsInto};
 
 mod check; // check.rt: the faults of words that are not those of a well-formed schedule
+pub mod leaps; // leaps.rt: the leaps of a list, one after the other
 pub mod list; // list.rt: words that are known to be a list
 
+pub use leaps::Leaps;
 pub use list::List;
 use refusals::Refusal;
 
@@ -35,6 +37,13 @@ pub const END_DAY: u32 = calendar::END_DAY as u32;
 pub enum Sign {
     Positive,
     Negative,
+}
+
+// A leap: the month at whose start it takes effect, and its sign.
+#[derive(Clone, Copy, Debug, PartialEq, Eq)]
+pub struct Leap {
+    pub month: u32,
+    pub sign: Sign,
 }
 
 // Why a list does not read, and where.
