@@ -2,8 +2,9 @@
 ghost use Rattle.std.specs.Prelude.{◌≡◌, true, length, slice_index_or};
 ghost use Rattle.refusals.specs.Answer.{given, require, answer_by};
 ghost use Rattle.refusals.specs.Refusals.{not_well_formed};
-ghost use Rattle.schedule.specs.Schedule.{no_leap, last_leap, expiry_month, well_formed};
+ghost use Rattle.schedule.specs.Schedule.{no_leap, last_leap, expiry_month, leaves_gap, well_formed};
 ghost use Rattle.schedule.specs.WordLayout.{meant};
+ghost use Rattle.schedule.specs.Answers.{writable};
 
 use crate::{Sign, count_of, expiry_of, is_list, month_at, sign_at};
 use refusals::Refusal;
@@ -71,4 +72,22 @@ impl<'a> List<'a> {
         }
         self.month(n - 1)
     }
+}
+
+// A list that every writer takes: rounding its expiry down to its month leaves a gap.
+#[derive(Clone, Copy)]
+pub struct WritableList<'a> {
+    pub list: List<'a>,
+    pub ghost gap: { leaves_gap (meant list.words.now) ≡ true },
+}
+
+// Words as such a list. It is refused with 11, or with 17 where no gap is left.
+pub fn writable(words: &[u32; 514]) -> Result<WritableList<'_>, Refusal>
+    ensures { answer_by (λ it. it.list.words.now) result ≡ writable (meant words.now) (given words.now) }
+{
+    let list = List::of(words)?;
+    if list.last_leap() < list.expiry_month() {
+        return Ok(WritableList { list });
+    }
+    Err(Refusal::NoGap)
 }

@@ -1,9 +1,9 @@
--- `schedule::writable` meets its contract. Assumes nothing.
+-- `schedule::list::writable` meets its contract. Assumes nothing.
 use Rattle.std.proofs.Common.{sym, ap, ◌∙◌, rules}
 use Rattle.refusals.specs.Answer.{given}
 use Rattle.schedule.specs.WordLayout.{meant}
 use Rattle.schedule.proofs.Answers.{not_list, listed, has_gap, without_gap}
-use Rattle.schedule.proofs.writable.Goals as goal
+use Rattle.schedule.proofs.list.writable.Goals as goal
 
 pub returns-in_err-list : goal.returns-in_err-list
 returns-in_err-list c =
