@@ -27,7 +27,7 @@ of_sign_next sign ls n h = ap (of_sign sign) step ∙ last (take n ls) (get_or l
     last [] l = omega arith
     last (x ∷ xs) l = omega (arith, last xs l)
 
-one_sign : (sign : Sign) → one_of Positive sign + one_of Negative sign ≡ 1
+pub one_sign : (sign : Sign) → one_of Positive sign + one_of Negative sign ≡ 1
 one_sign Positive = refl
 one_sign Negative = refl
 
