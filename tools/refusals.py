@@ -146,7 +146,7 @@ def helped(refusals):
         if r.meaning("program"):
             out.append(f"{r.number:<3} {r.meaning('program')}\\n\\\n")
     # the last line ends the text
-    out[-1] = out[-1].removesuffix("\\\n") + '",\n'
+    out[-1] = out[-1].removesuffix("\\\n") + '";\n'
     return "".join(out)
 
 
@@ -176,7 +176,7 @@ def drawn(refusals):
     yield between(rust, "pub enum Refusal {", "}", variants(refusals))
     yield between(rust, "    /// All of them, by number.", "", all_variants(refusals))
     yield between(rust, "        f.write_str(match self {", "        })", displayed(refusals))
-    yield between("crates/shell/src/help.rt", "The numbers:\\n\\", "    );", helped(refusals))
+    yield between("crates/shell/src/help.rt", "The numbers:\\n\\", "", helped(refusals))
     yield between("README.md", "<!-- the refusals, drawn by tools/refusals.py -->", "<!-- end -->", listed(refusals))
 
 

@@ -10,8 +10,7 @@ use lib.Dec.{ltb, leb}
 use lib.ListN.{length, get_or, drop, length-append, drop_of_length-le}
 use borrow.Author.Tests.{ltb-true, ltb-false, lt-ltb, le-ltb, leb-true, le-leb, lt-leb}
 use Rattle.ascii.specs.Ascii.{within}
-use Rattle.ascii.specs.declared.decimal.Number.{Number}
-use Rattle.ascii.specs.declared.decimal.Number.TheVariants.{Given, Missing}
+use Rattle.std.specs.Prelude.{Option, Some, None}
 use Rattle.ascii.specs.Decimal.{digit, digits_in, decimal, pair, is_digit, all_digits, value_after, max_number, number_of}
 use Rattle.ascii.specs.Private.{eight}
 use Rattle.ascii.proofs.Cases.{by_bool}
@@ -77,10 +76,10 @@ decimal_short (suc k) n h =
 -- ---- the reading of a number
 
 -- what is read from bytes after the digits of n
-unfoldable pub number_after : ℕ → List ℕ → Number
-number_after n bytes = cond (all_digits bytes && leb (value_after n bytes) max_number) (Given (value_after n bytes)) Missing
+unfoldable pub number_after : ℕ → List ℕ → Option ℕ
+number_after n bytes = cond (all_digits bytes && leb (value_after n bytes) max_number) (Some (value_after n bytes)) None
 
-pub empty : (field : List ℕ) → length field ≡ 0 → number_of field ≡ Missing
+pub empty : (field : List ℕ) → length field ≡ 0 → number_of field ≡ None
 unfolding number_of
 empty [] h = refl
 empty (b ∷ bs) h = absurd (omega arith)
@@ -97,12 +96,12 @@ grows [] n = omega arith
 grows (b ∷ bs) n = omega (arith, grows bs (n * 10 + (b - 48)))
 
 module _ (bytes : List ℕ) (i n : ℕ) where
-  pub done : length bytes ≤ i → n ≤ max_number → number_after n (drop i bytes) ≡ Given n
+  pub done : length bytes ≤ i → n ≤ max_number → number_after n (drop i bytes) ≡ Some n
   unfolding number_after all_digits value_after
   done h f = rw (drop_of_length-le bytes h) (simp (le-leb n max_number f))
 
   module _ (h : i < length bytes) where
-    pub no_digit : is_digit (get_or bytes i 0) ≡ false → number_after n (drop i bytes) ≡ Missing
+    pub no_digit : is_digit (get_or bytes i 0) ≡ false → number_after n (drop i bytes) ≡ None
     unfolding number_after all_digits
     no_digit d = rw (uncons bytes i h) (simp d)
 
@@ -111,7 +110,7 @@ module _ (bytes : List ℕ) (i n : ℕ) where
       unfolding number_after all_digits value_after
       more = rw (e, uncons bytes i h) (simp d)
 
-      pub too_large : max_number < n * 10 + v → number_after n (drop i bytes) ≡ Missing
+      pub too_large : max_number < n * 10 + v → number_after n (drop i bytes) ≡ None
       unfolding number_after
       too_large l =
           let rest = drop (i + 1) bytes in
@@ -168,7 +167,7 @@ some_digit n =
     (λ a z. omega (arith, ap length (large n (ltb-false n 10 a)), length-append (decimal (n / 10)) (digit (n % 10) ∷ [])))
 
 -- a number up to 2^64 - 1 is read back from its digits
-pub decimal_back : (n : ℕ) → n ≤ max_number → number_of (decimal n) ≡ Given n
+pub decimal_back : (n : ℕ) → n ≤ max_number → number_of (decimal n) ≡ Some n
 unfolding number_after
 decimal_back n h = begins (decimal n) (some_digit n) ∙ simp (are_digits n, value_of n, le-leb n max_number h)
 
@@ -192,24 +191,24 @@ value_below (suc k) (x ∷ xs) n h d =
     omega (arith, value_below k xs m (omega arith) e.1, less, tens)
 
 -- a field of 1 to 18 digits, leading zeros or not, gives its number; and one of at most 18 bytes that gives a number is such digits
-pub few_digits : (field : List ℕ) → 1 ≤ length field → length field ≤ 18 → all_digits field ≡ true → number_of field ≡ Given (value_after 0 field)
+pub few_digits : (field : List ℕ) → 1 ≤ length field → length field ≤ 18 → all_digits field ≡ true → number_of field ≡ Some (value_after 0 field)
 unfolding number_after
 few_digits field h g d =
     begins field (λ z. absurd (omega arith)) ∙ simp (d, le-leb (value_after 0 field) max_number (omega (arith, value_below 18 field 0 g d)))
 
-pub given_digits : (field : List ℕ) (n : ℕ) → number_of field ≡ Given n → (1 ≤ length field) × (all_digits field ≡ true) × (value_after 0 field ≡ n)
+pub given_digits : (field : List ℕ) (n : ℕ) → number_of field ≡ Some n → (1 ≤ length field) × (all_digits field ≡ true) × (value_after 0 field ≡ n)
 unfolding number_of
 given_digits [] n = λ e. absurd (never e)
   where
-    never : Missing ≡ Given n → ⊥
+    never : None ≡ Some n → ⊥
     never e = let z : ◌≡◌ {A = ℕ} 0 1 = cc in omega arith
 given_digits (b ∷ bs) n =
     by_bool (all_digits (b ∷ bs) && leb (value_after 0 (b ∷ bs)) max_number)
     (λ a. simp a (λ e. (omega arith, ((and-eq-true_iff (all_digits (b ∷ bs)) (leb (value_after 0 (b ∷ bs)) max_number)).0 a).0, same_number e)))
     (λ a. simp a (λ e. absurd (never e)))
   where
-    never : Missing ≡ Given n → ⊥
+    never : None ≡ Some n → ⊥
     never e = let z : ◌≡◌ {A = ℕ} 0 1 = cc in omega arith
 
-    same_number : Given (value_after 0 (b ∷ bs)) ≡ Given n → value_after 0 (b ∷ bs) ≡ n
+    same_number : Some (value_after 0 (b ∷ bs)) ≡ Some n → value_after 0 (b ∷ bs) ≡ n
     same_number e = cc

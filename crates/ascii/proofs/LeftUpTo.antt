@@ -4,27 +4,27 @@ use mathlib.Core.Path.{◌≡◌, refl, sym, ◌∙◌}
 use mathlib.Core.List.{List, [], ◌++◌, append_assoc, append-nil}
 use Prim.Native.Nat.{ℕ, ◌+◌, ◌≤◌}
 use native.Mathlib.Omega.{arith}
+use Rattle.ascii.specs.declared.output.Output.{Output}
 use Rattle.ascii.specs.Output.{PutsUpTo}
 use Rattle.ascii.proofs.Putting.{nothing, up_to, few}
 
-pub record LeftUpTo (most : ℕ) (start out : List ℕ) (at next : ℕ) (whole rest : List ℕ) : Type 0 where
+pub record LeftUpTo (most : ℕ) (start out : Output) (whole rest : List ℕ) : Type 0 where
   pub done : List ℕ
-  pub puts : PutsUpTo most start out at next done
+  pub puts : PutsUpTo most start out done
   pub makes : done ++ rest ≡ whole
 
-pub none_yet : (out : List ℕ) (at : ℕ) {whole rest : List ℕ} → whole ≡ rest → LeftUpTo 0 out out at at whole rest
-none_yet out at e = record { done = []; puts = record { puts = nothing out at; short = omega arith }; makes = sym e }
+pub none_yet : (out : Output) {whole rest : List ℕ} → whole ≡ rest → LeftUpTo 0 out out whole rest
+none_yet out e = record { done = []; puts = record { puts = nothing out; short = omega arith }; makes = sym e }
 
-pub more : {most m n : ℕ} {start out out' : List ℕ} {at next next' : ℕ} {whole rest xs rest' : List ℕ} → LeftUpTo m start out at next whole rest
-    → PutsUpTo n out out' next next' xs → rest ≡ xs ++ rest' → m + n ≤ most → LeftUpTo most start out' at next' whole rest'
+pub more : {most m n : ℕ} {start out out' : Output} {whole rest xs rest' : List ℕ} → LeftUpTo m start out whole rest → PutsUpTo n out out' xs
+    → rest ≡ xs ++ rest' → m + n ≤ most → LeftUpTo most start out' whole rest'
 more {xs = xs} {rest' = rest'} l p e h =
     record { done = l.done ++ xs; puts = up_to l.puts p refl h; makes = append_assoc l.done xs rest' ∙ rw (← e) l.makes }
 
 -- the rest is put, or there is none
-pub with_rest : {most m n : ℕ} {start out out' : List ℕ} {at next next' : ℕ} {whole rest : List ℕ} → LeftUpTo m start out at next whole rest
-    → PutsUpTo n out out' next next' rest → m + n ≤ most → PutsUpTo most start out' at next' whole
+pub with_rest : {most m n : ℕ} {start out out' : Output} {whole rest : List ℕ} → LeftUpTo m start out whole rest → PutsUpTo n out out' rest → m + n ≤ most
+    → PutsUpTo most start out' whole
 with_rest l p h = up_to l.puts p (sym l.makes) h
 
-pub all : {most m : ℕ} {start out : List ℕ} {at next : ℕ} {whole rest : List ℕ} → LeftUpTo m start out at next whole rest → rest ≡ [] → m ≤ most
-    → PutsUpTo most start out at next whole
+pub all : {most m : ℕ} {start out : Output} {whole rest : List ℕ} → LeftUpTo m start out whole rest → rest ≡ [] → m ≤ most → PutsUpTo most start out whole
 all l e h = few l.puts (sym l.makes ∙ rw e (append-nil l.done)) h

@@ -1,9 +1,7 @@
 -- Numbers in decimal.
 -- Assumes nothing: these are definitions.
-use Rattle.std.specs.Prelude.{ℕ, zero, suc, ◌+◌, ◌-◌, ◌*◌, ◌/◌, ◌%◌, ◌^◌, Bool, true, false, not, cond, ◌&&◌, List, [], ◌∷◌, ◌++◌, ltb, leb, eqb, ℤ, pos, negsuc, neg_ℤ}
+use Rattle.std.specs.Prelude.{ℕ, zero, suc, ◌+◌, ◌-◌, ◌*◌, ◌/◌, ◌%◌, ◌^◌, Bool, true, false, not, cond, ◌&&◌, List, [], ◌∷◌, ◌++◌, ltb, leb, eqb, ℤ, pos, negsuc, neg_ℤ, Option, Some, None}
 use Rattle.ascii.specs.Ascii.{within, zero_byte, nine_byte, plus_byte, minus_byte}
-use Rattle.ascii.specs.declared.decimal.Number.{Number}
-use Rattle.ascii.specs.declared.decimal.Number.TheVariants.{Given, Missing}
 
 -- the byte of a digit
 abbrev pub digit : ℕ → ℕ
@@ -65,5 +63,5 @@ abbrev pub is_number : List ℕ → Bool
 is_number field = not (is_empty field) && (all_digits field && leb (value_after 0 field) max_number)
 
 -- the number that a field gives
-unfoldable pub number_of : List ℕ → Number
-number_of field = cond (is_number field) (Given (value_after 0 field)) Missing
+unfoldable pub number_of : List ℕ → Option ℕ
+number_of field = cond (is_number field) (Some (value_after 0 field)) None

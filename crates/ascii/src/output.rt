@@ -1,28 +1,47 @@
-// An output that is filled as far as it has room. Each function takes the place of the next byte and returns the place after what it put,
-// which is never past the output's end; so a caller needs no bound on what it puts.
-ghost use Rattle.std.specs.Prelude.{[], ◌∷◌};
+// An output that is filled as far as it has room; so a caller needs no bound on what it puts.
+ghost use Rattle.std.specs.Prelude.{◌≡◌, [], ◌∷◌};
 ghost use Rattle.ascii.specs.Output.{Puts};
 
-// Puts a byte.
-pub fn put(out: &mut [u8], at: usize, byte: u8) -> usize
-    ensures { Puts out.old out.new at result (byte ∷ []) }
-{
-    if at < out.len() {
-        out[at] = byte;
-        return at + 1;
-    }
-    at
+// Bytes that are filled from their start, the place of the next one, which is never past the end, and whether LF stands between the lines of
+// what is put, or `; `.
+#[derive(Drop)]
+pub struct Output<'a> {
+    pub bytes: &'a mut [u8],
+    pub at: usize,
+    pub lines: bool,
 }
 
-// Puts bytes.
-pub fn put_all(out: &mut [u8], at: usize, bytes: &[u8]) -> usize
-    ensures { Puts out.old out.new at result bytes.now }
-{
-    let mut next = at;
-    let mut i: usize = 0;
-    while i < bytes.len() {
-        next = put(out, next, bytes[i]);
-        i += 1;
+impl<'a> Output<'a> {
+    // An output that holds nothing yet.
+    pub fn new(bytes: &'a mut [u8], lines: bool) -> Output<'a>
+        ensures same_buffer { result.bytes.ghost_name ≡ bytes.entry.ghost_name }
+        ensures same_bytes { result.bytes.now ≡ bytes.old }
+        ensures at_start { result.at ≡ 0 }
+        ensures same_lines { result.lines ≡ lines }
+    {
+        Output {
+            bytes,
+            at: 0,
+            lines,
+        }
     }
-    next
+
+    // Puts a byte.
+    pub fn put(&mut self, byte: u8)
+        ensures { Puts self.old self.new (byte ∷ []) }
+    {
+        if self.at < self.bytes.len() {
+            self.bytes[self.at] = byte;
+            self.at += 1;
+        }
+    }
+
+    // Puts bytes.
+    pub fn put_all(&mut self, bytes: &[u8])
+        ensures { Puts self.old self.new bytes.now }
+    {
+        for b in bytes {
+            self.put(*b);
+        }
+    }
 }

@@ -1,34 +1,11 @@
-// The parts of a line, and whether two of them are equal.
-ghost use Rattle.std.specs.Prelude.{◌≡◌, ◌+◌, length, drop};
-ghost use Rattle.ascii.specs.Parts.{same, first_part};
+// The parts of a line.
+ghost use Rattle.std.specs.Prelude.{◌≡◌, MatchOption};
+ghost use Rattle.ascii.specs.Parts.{first_part, Split};
 
-// Whether two lists of bytes are equal.
-pub fn same(a: &[u8], b: &[u8]) -> bool
-    ensures { result ≡ same a.now b.now }
+// What stands before the first byte `mark` and what stands behind it; none where there is no such byte.
+pub fn split_once(bytes: &[u8], mark: u8) -> Option<(&[u8], &[u8])>
+    ensures { MatchOption result (first_part mark bytes.now ≡ bytes.now) (λ x. Split mark bytes.now x.0.now x.1.now) }
 {
-    if a.len() != b.len() {
-        return false;
-    }
-    let mut i: usize = 0;
-    while i < a.len() {
-        if a[i] != b[i] {
-            return false;
-        }
-        i += 1;
-    }
-    true
-}
-
-// Where the part ends that starts at a place: at the next byte `mark`, or at the end of the bytes.
-pub fn part_end(bytes: &[u8], from: usize, mark: u8) -> usize
-    ensures { result ≡ from + length (first_part mark (drop from bytes.now)) }
-{
-    let mut i = from;
-    while i < bytes.len() {
-        if bytes[i] == mark {
-            return i;
-        }
-        i += 1;
-    }
-    i
+    let at = bytes.iter().position(|b| *b == mark)?;
+    Some((&bytes[..at], &bytes[at + 1..]))
 }

@@ -1,23 +1,26 @@
 // Refusals as an answer has them.
+ghost use Rattle.refusals.specs.Refusals.{number_of};
 ghost use Rattle.ascii.specs.Output.{PutsUpTo};
 ghost use Rattle.ascii.specs.Refusal.{refusal, refusal_at};
 
-use crate::decimal::{put_decimal, wide};
-use crate::output::put;
+use crate::output::Output;
+use refusals::Refusal;
 
-// Puts a refusal.
-pub fn put_refusal(out: &mut [u8], at: usize, number: u8) -> usize
-    ensures { PutsUpTo 21 out.old out.new at result (refusal number) }
-{
-    let next = put(out, at, b'!');
-    put_decimal(out, next, wide(number))
-}
+impl Output<'_> {
+    // Puts a refusal.
+    pub fn put_refusal(&mut self, why: Refusal)
+        ensures { PutsUpTo 21 self.old self.new (refusal (number_of why)) }
+    {
+        self.put(b'!');
+        self.put_decimal(u64::from(why.number()));
+    }
 
-// Puts the refusal of a list that does not read, with its place.
-pub fn put_refusal_at(out: &mut [u8], at: usize, number: u8, place: usize) -> usize
-    ensures { PutsUpTo 42 out.old out.new at result (refusal_at number place) }
-{
-    let a = put_refusal(out, at, number);
-    let b = put(out, a, b' ');
-    put_decimal(out, b, place as u64)
+    // Puts the refusal of a list that does not read, with its place.
+    pub fn put_refusal_at(&mut self, why: Refusal, place: usize)
+        ensures { PutsUpTo 42 self.old self.new (refusal_at (number_of why) place) }
+    {
+        self.put_refusal(why);
+        self.put(b' ');
+        self.put_decimal(place as u64);
+    }
 }

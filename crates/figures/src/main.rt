@@ -1,234 +1,197 @@
 // Runs the figures of the papers and prints them, one a line: a name, then numbers. The file `stdout` has them as the papers give them.
 #![tactic(auto)]
 
-use clock::{
-    DtaiAnswer, MicrosAnswer, TaiAnswer, TaiMicros, UtcAnswer, UtcMicros, UtsAnswer, UtsNanos,
-};
-
-fn put(words: &[u8]) {
-    io::write_all(1, words);
-}
-
-fn number(n: u64) {
-    put(b" ");
-    io::print_decimal(1, n);
-}
-
-// The last number of a line.
-fn last(n: u64) {
-    number(n);
-    put(b"\n");
-}
+use clock::{TaiMicros, UtcMicros, UtsNanos};
+use refusals::Refusal;
+use schedule::ParseError;
 
 // What a reader answers: number, place, how many leaps, expiry.
-fn reading(n: u8, place: u64, words: &[u32; 514]) {
-    number(n as u64);
-    number(place);
-    number(schedule::count_of(words) as u64);
-    last(schedule::expiry_of(words) as u64);
+fn reading(rt: &HostRuntime, name: &str, read: Result<(), ParseError>, words: &[u32; 514]) {
+    let (number, place) = match read {
+        Ok(()) => (0, 0),
+        Err(error) => (error.refusal.number(), error.place),
+    };
+    let count = schedule::count_of(words);
+    let expiry = schedule::expiry_of(words);
+    let _ = println!(rt; "{name} {number} {place} {count} {expiry}");
 }
 
-fn text(name: &[u8], list: &[u8]) {
-    put(name);
+fn text(rt: &HostRuntime, name: &str, list: &[u8]) {
     let mut words = [0u32; 514];
-    let mut place: u64 = 0;
-    let n = text::read_text(list, &mut words, &mut place);
-    reading(n, place, &words);
+    let read = text::read_text(list, &mut words);
+    reading(rt, name, read, &words);
 }
 
-fn nybbles(name: &[u8], list: &[u8]) {
-    put(name);
+fn nybbles(rt: &HostRuntime, name: &str, list: &[u8]) {
     let mut words = [0u32; 514];
-    let mut place: u64 = 0;
-    let n = nybbles::read_nybbles(list, &mut words, &mut place);
-    reading(n, place, &words);
+    let read = nybbles::read_nybbles(list, &mut words);
+    reading(rt, name, read, &words);
 }
 
-// The words of a text list.
+// The words of a text list; the blank schedule's if it does not read.
 fn list_of(list: &[u8]) -> [u32; 514] {
     let mut words = [0u32; 514];
-    let mut place: u64 = 0;
-    text::read_text(list, &mut words, &mut place);
+    let _ = text::read_text(list, &mut words);
     words
 }
 
 // The month of the last leap of a list that has one.
-fn last_leap(name: &[u8], words: &[u32; 514]) {
-    put(name);
+fn last_leap(rt: &HostRuntime, name: &str, words: &[u32; 514]) {
+    let _ = print!(rt; "{name}");
     let n = schedule::count_of(words);
     if 0 < n {
-        last(schedule::month_at(words, n - 1) as u64);
+        let month = schedule::month_at(words, n - 1);
+        let _ = println!(rt; " {month}");
     }
 }
 
-fn hex(x: u8, is_written: bool) {
-    if is_written {
-        io::print_hex(1, x as u64, 2);
-    }
-}
-
-// The first n of some bytes in hex.
-fn hexes(bytes: &[u8; 64], n: usize) {
-    put(b" ");
-    let mut i: usize = 0;
-    while i < 64 {
-        hex(bytes[i], i < n);
-        i += 1;
-    }
-    put(b"\n");
-}
-
-// The nybbles of a list in hex: the writer's number, then the bytes.
-fn written(name: &[u8], words: &[u32; 514]) {
-    put(name);
+// The nybbles of a list: the writer's number, then the bytes in hex.
+fn written(rt: &HostRuntime, words: &[u32; 514]) {
     let mut out = [0u8; 64];
-    let w = nybbles::write_nybbles(words, &mut out);
-    number(w.number as u64);
-    hexes(&out, w.count);
+    let (number, count) = match nybbles::write_nybbles(words, &mut out) {
+        Ok(count) => (0, count),
+        Err(refusal) => (refusal.number(), 0),
+    };
+    let _ = print!(rt; " {number} ");
+    for byte in out.iter().take(count) {
+        let _ = print!(rt; "{byte:02x}");
+    }
+    let _ = println!(rt; "");
 }
 
-fn month(m: u32) {
-    put(b"month");
-    number(m as u64);
-    last(calendar::month_start(m));
+fn month(rt: &HostRuntime, month: u32) {
+    let start = calendar::month_start(month);
+    let _ = println!(rt; "month {month} {start}");
 }
 
-fn dtai(name: &[u8], words: &[u32; 514], day: u64) {
-    put(name);
+// A refusal: its number alone.
+fn refused(rt: &HostRuntime, name: &str, refusal: Refusal) {
+    let number = refusal.number();
+    let _ = println!(rt; "{name} {number}");
+}
+
+fn dtai(rt: &HostRuntime, name: &str, words: &[u32; 514], day: u64) {
     match questions::dtai(words, day) {
-        DtaiAnswer::Given(d) => {
-            if 0 <= d {
-                number(0);
-                last(d as u64);
-            }
+        Ok(seconds) => {
+            let _ = println!(rt; "{name} 0 {seconds}");
         }
-        DtaiAnswer::Refused(n) => last(n as u64),
+        Err(refusal) => refused(rt, name, refusal),
     }
 }
 
-fn tai(name: &[u8], words: &[u32; 514], day: u64, micros: u64) {
-    put(name);
+fn tai(rt: &HostRuntime, name: &str, words: &[u32; 514], day: u64, micros: u64) {
     match questions::utc_to_tai(words, day, UtcMicros(micros)) {
-        TaiAnswer::Given(x) => {
-            number(0);
-            last(x.0);
+        Ok(TaiMicros(tai)) => {
+            let _ = println!(rt; "{name} 0 {tai}");
         }
-        TaiAnswer::Refused(n) => last(n as u64),
+        Err(refusal) => refused(rt, name, refusal),
     }
 }
 
-fn utc(name: &[u8], words: &[u32; 514], x: u64) {
-    put(name);
-    match questions::tai_to_utc(words, TaiMicros(x)) {
-        UtcAnswer::Given(day, t) => {
-            number(0);
-            number(day);
-            last(t.0);
+fn utc(rt: &HostRuntime, name: &str, words: &[u32; 514], tai: u64) {
+    match questions::tai_to_utc(words, TaiMicros(tai)) {
+        Ok(instant) => {
+            let day = instant.day;
+            let micros = instant.micros.0;
+            let _ = println!(rt; "{name} 0 {day} {micros}");
         }
-        UtcAnswer::Refused(n) => last(n as u64),
+        Err(refusal) => refused(rt, name, refusal),
     }
 }
 
 // What smoothed time goes back to.
-fn back(words: &[u32; 514], day: u64, nanos: UtsNanos) {
+fn back(words: &[u32; 514], day: u64, nanos: UtsNanos) -> u64 {
     match questions::uts_to_utc(words, day, nanos) {
-        MicrosAnswer::Given(t) => last(t.0),
-        MicrosAnswer::Refused(n) => last(n as u64),
+        Ok(UtcMicros(micros)) => micros,
+        Err(refusal) => u64::from(refusal.number()),
     }
 }
 
 // Smoothed time, and what it goes back to.
-fn uts(name: &[u8], words: &[u32; 514], day: u64, micros: u64) {
-    put(name);
+fn uts(rt: &HostRuntime, name: &str, words: &[u32; 514], day: u64, micros: u64) {
     match questions::utc_to_uts(words, day, UtcMicros(micros)) {
-        UtsAnswer::Given(u) => {
-            number(0);
-            number(u.0);
-            back(words, day, u);
+        Ok(uts) => {
+            let nanos = uts.0;
+            let back = back(words, day, uts);
+            let _ = println!(rt; "{name} 0 {nanos} {back}");
         }
-        UtsAnswer::Refused(n) => last(n as u64),
+        Err(refusal) => refused(rt, name, refusal),
     }
 }
 
 // Smoothed time at each of these microseconds of a day.
-fn uts_each(name: &[u8], words: &[u32; 514], day: u64, micros: &[u64]) {
-    let mut i: usize = 0;
-    while i < micros.len() {
-        uts(name, words, day, micros[i]);
-        i += 1;
+fn uts_each(rt: &HostRuntime, name: &str, words: &[u32; 514], day: u64, micros: &[u64]) {
+    for t in micros {
+        uts(rt, name, words, day, *t);
     }
 }
 
 // P1 to P6: texts.
-fn texts() {
-    text(b"P1", b"5?");
-    text(b"P2", b"");
-    text(b"P3", b"06+5?");
-    text(b"P4", b"1000?");
-    text(b"P5", b"999?");
-    text(b"P6", b"5?\n");
+fn texts(rt: &HostRuntime) {
+    text(rt, "P1", b"5?");
+    text(rt, "P2", b"");
+    text(rt, "P3", b"06+5?");
+    text(rt, "P4", b"1000?");
+    text(rt, "P5", b"999?");
+    text(rt, "P6", b"5?\n");
 }
 
 // P7 to P9: nybbles.
-fn codes() {
-    nybbles(b"P7", b"\xF4");
-    nybbles(b"P8", b"\x0F");
-    nybbles(b"P9", b"\x9D");
+fn codes(rt: &HostRuntime) {
+    nybbles(rt, "P7", b"\xF4");
+    nybbles(rt, "P8", b"\x0F");
+    nybbles(rt, "P9", b"\x9D");
 }
 
 // P10 to P12: smoothed time on the day of the leap.
-fn smoothed() {
+fn smoothed(rt: &HostRuntime) {
     let plus = list_of(b"6+5?");
-    uts(b"P10", &plus, 41498, 86_400_000_000);
-    uts_each(b"P11", &plus, 41498, &[85_401_000_000, 85_402_000_000]);
+    uts(rt, "P10", &plus, 41498, 86_400_000_000);
+    uts_each(rt, "P11", &plus, 41498, &[85_401_000_000, 85_402_000_000]);
     let minus = list_of(b"6-5?");
-    uts_each(b"P12", &minus, 41498, &[86_398_000_000, 86_399_000_000]);
+    uts_each(rt, "P12", &minus, 41498, &[86_398_000_000, 86_399_000_000]);
 }
 
 // Month starts: the first and the last of the table, and those of list B's last leap and expiry.
-fn months() {
-    let months: [u32; 4] = [0, 2400, 540, 599];
-    let mut i: usize = 0;
-    while i < 4 {
-        month(months[i]);
-        i += 1;
+fn months(rt: &HostRuntime) {
+    for m in [0, 2400, 540, 599] {
+        month(rt, m);
     }
 }
 
-fn list_a() {
+fn list_a(rt: &HostRuntime) {
     let list = b"6+6+12+12+12+12+12+12+12+18+12+12+24+30+24+12+18+12+12+5?";
-    text(b"A", list);
+    text(rt, "A", list);
     let words = list_of(list);
-    last_leap(b"A last", &words);
-    dtai(b"A DTAI", &words, calendar::month_start(270));
-    written(b"A nybbles", &words);
+    last_leap(rt, "A last", &words);
+    dtai(rt, "A DTAI", &words, calendar::month_start(270));
+    let _ = print!(rt; "A nybbles");
+    written(rt, &words);
 }
 
 // By the bytecode rule 0x82 is 18 months, and 36 months is 0x85.
-fn bytecodes() {
-    nybbles(b"82", b"\x82\xF4");
-    nybbles(b"85", b"\x85\xF4");
+fn bytecodes(rt: &HostRuntime) {
+    nybbles(rt, "82", b"\x82\xF4");
+    nybbles(rt, "85", b"\x85\xF4");
 }
 
-fn list_b() {
+fn list_b(rt: &HostRuntime) {
     let list = b"\x00\x11\x11\x11\x12\x11\x34\x31\x21\x12\x22\x9D\x56\x52\x87\xFA";
-    nybbles(b"B", list);
+    nybbles(rt, "B", list);
     let mut words = [0u32; 514];
-    let mut place: u64 = 0;
-    nybbles::read_nybbles(list, &mut words, &mut place);
-    last_leap(b"B last", &words);
-    dtai(b"B DTAI", &words, 57754);
-    dtai(b"B DTAI", &words, 57753);
-    dtai(b"B DTAI", &words, 59548);
-    uts(b"B UTS", &words, 59548, 85_399_000_000);
-    tai(b"B TAI", &words, 59548, 85_399_000_000);
+    let _ = nybbles::read_nybbles(list, &mut words);
+    last_leap(rt, "B last", &words);
+    dtai(rt, "B DTAI", &words, 57754);
+    dtai(rt, "B DTAI", &words, 57753);
+    dtai(rt, "B DTAI", &words, 59548);
+    uts(rt, "B UTS", &words, 59548, 85_399_000_000);
+    tai(rt, "B TAI", &words, 59548, 85_399_000_000);
 }
 
 // The first table of document 002, at a day that ends with an inserted second, and the start of the next day.
-fn inserted() {
+fn inserted(rt: &HostRuntime) {
     let words = list_of(b"6+5?");
-    uts_each(
-        b"inserted",
+    uts_each(rt, "inserted",
         &words,
         41498,
         &[
@@ -241,14 +204,13 @@ fn inserted() {
             86_400_000_000,
         ],
     );
-    uts_each(b"inserted", &words, 41499, &[0, 1_000_000]);
+    uts_each(rt, "inserted", &words, 41499, &[0, 1_000_000]);
 }
 
 // The second, at a day that ends with a deleted second.
-fn deleted() {
+fn deleted(rt: &HostRuntime) {
     let words = list_of(b"6-5?");
-    uts_each(
-        b"deleted",
+    uts_each(rt, "deleted",
         &words,
         41498,
         &[
@@ -261,16 +223,16 @@ fn deleted() {
             86_398_000_000,
         ],
     );
-    uts_each(b"deleted", &words, 41499, &[0, 1_000_000]);
+    uts_each(rt, "deleted", &words, 41499, &[0, 1_000_000]);
 }
 
 // TAI at the first instant of 1972, and the one instant of it; DTAI in the inserted second is the old one.
-fn atomic() {
+fn atomic(rt: &HostRuntime) {
     let words = list_of(b"6+5?");
-    tai(b"1972 TAI", &words, 41317, 0);
-    utc(b"1972 UTC", &words, 10_000_000);
-    tai(b"leap TAI", &words, 41498, 86_400_000_000);
-    tai(b"next TAI", &words, 41499, 0);
+    tai(rt, "1972 TAI", &words, 41317, 0);
+    utc(rt, "1972 UTC", &words, 10_000_000);
+    tai(rt, "leap TAI", &words, 41498, 86_400_000_000);
+    tai(rt, "next TAI", &words, 41499, 0);
 }
 
 // A list without leaps that expires on a day.
@@ -280,58 +242,48 @@ fn expiring(expiry: u32) -> [u32; 514] {
     words
 }
 
-fn until(expiry: u32) {
-    put(b"until");
-    number(expiry as u64);
-    let words = expiring(expiry);
-    written(b"", &words);
-}
-
 // 10/14: which expiry days of a list without leaps are well formed and can be written.
-fn expiries() {
-    let days: [u32; 6] = [41_317, 41_318, 41_347, 41_348, 71_752, 71_753];
-    let mut i: usize = 0;
-    while i < 6 {
-        until(days[i]);
-        i += 1;
+fn expiries(rt: &HostRuntime) {
+    for expiry in [41_317, 41_318, 41_347, 41_348, 71_752, 71_753] {
+        let _ = print!(rt; "until {expiry}");
+        written(rt, &expiring(expiry));
     }
 }
 
 // 10/14: the last day before an expiry within a month, 41360, is known to its end.
-fn last_day() {
+fn last_day(rt: &HostRuntime) {
     let words = expiring(41_360);
-    uts_each(
-        b"within UTS",
+    uts_each(rt, "within UTS",
         &words,
         41_359,
         &[86_399_999_999, 86_400_000_000],
     );
-    uts(b"within UTS", &words, 41_360, 0);
-    tai(b"within TAI", &words, 41_359, 86_399_999_999);
-    tai(b"within TAI", &words, 41_359, 86_400_000_000);
-    utc(b"within UTC", &words, 3_715_209_999_999);
-    utc(b"within UTC", &words, 3_715_210_000_000);
+    uts(rt, "within UTS", &words, 41_360, 0);
+    tai(rt, "within TAI", &words, 41_359, 86_399_999_999);
+    tai(rt, "within TAI", &words, 41_359, 86_400_000_000);
+    utc(rt, "within UTC", &words, 3_715_209_999_999);
+    utc(rt, "within UTC", &words, 3_715_210_000_000);
 }
 
 // List N, and the longest gap.
-fn others() {
-    text(b"N", b"6-5?");
-    let whole = list_of(b"999?");
-    written(b"999", &whole);
+fn others(rt: &HostRuntime) {
+    text(rt, "N", b"6-5?");
+    let _ = print!(rt; "999");
+    written(rt, &list_of(b"999?"));
 }
 
-fn main() {
-    texts();
-    codes();
-    smoothed();
-    months();
-    list_a();
-    list_b();
-    bytecodes();
-    others();
-    inserted();
-    deleted();
-    atomic();
-    expiries();
-    last_day();
+fn main(rt: HostRuntime) {
+    texts(&rt);
+    codes(&rt);
+    smoothed(&rt);
+    months(&rt);
+    list_a(&rt);
+    list_b(&rt);
+    bytecodes(&rt);
+    others(&rt);
+    inserted(&rt);
+    deleted(&rt);
+    atomic(&rt);
+    expiries(&rt);
+    last_day(&rt);
 }

@@ -5,66 +5,47 @@
 mod lines; // lines.rt: the lines of standard input, questions or a trace
 mod output; // output.rt: standard output
 
+use crate::lines::{Questions, Trace};
 use crate::output::print_answer;
-use ascii::parts::part_end;
-use line::words::{Word, word_of};
+use ascii::parts::split_once;
+use line::words::word_of;
 use shell::arguments::put_arguments;
 use shell::help;
-use shell::output::{within, write};
+use shell::output::write;
 use shell::words::{Own, own_of};
 use std::env::FillError;
 use std::rt::Env;
 
-// Answers `ask`, by what stands behind the word: nothing may.
-fn run_ask(rt: &HostRuntime, rest: &[u8]) {
-    if rest.len() == 0 {
-        lines::answer(rt, false);
-        return;
-    }
-    write(rt, b"? expected: ask\n");
-}
+const EXPECTED: &[u8] = b"? expected: show, nybbles, text, dtai, tai, utc, uts, unsmooth, compare, longer, ask, replay or help\n";
 
-// Answers `replay`, by what stands behind the word: nothing may.
-fn run_replay(rt: &HostRuntime, rest: &[u8]) {
-    if rest.len() == 0 {
-        lines::answer(rt, true);
-        return;
-    }
-    write(rt, b"? expected: replay\n");
-}
-
-// Answers `help`, by what stands behind the word: nothing, or a space and a word.
-fn run_help(rt: &HostRuntime, rest: &[u8]) {
-    if rest.len() == 0 {
-        help::print(rt);
-        return;
-    }
-    help::print_word(rt, &rest[1..]);
-}
-
-fn print_expected(rt: &HostRuntime) {
-    write(
-        rt,
-        b"? expected: show, nybbles, text, dtai, tai, utc, uts, unsmooth, compare, longer, ask, replay or help\n",
-    );
-}
-
-// Answers a line whose first word is none of a question's, by that word and what stands behind it.
-fn run_own(rt: &HostRuntime, word: &[u8], rest: &[u8]) {
-    match own_of(word) {
-        Own::Ask => run_ask(rt, rest),
-        Own::Replay => run_replay(rt, rest),
-        Own::Help => run_help(rt, rest),
-        Own::Other => print_expected(rt),
+// Answers a word that is none of a question's, by what stands behind it: nothing may behind `ask` and `replay`, and behind `help` a word.
+fn run_own(rt: &HostRuntime, own: Own, rest: Option<&[u8]>) {
+    match (own, rest) {
+        (Own::Ask, None) => lines::answer(rt, Questions),
+        (Own::Ask, Some(_)) => {
+            write(rt, b"? expected: ask\n");
+        }
+        (Own::Replay, None) => lines::answer(rt, Trace::new()),
+        (Own::Replay, Some(_)) => {
+            write(rt, b"? expected: replay\n");
+        }
+        (Own::Help, None) => help::print(rt),
+        (Own::Help, Some(word)) => help::print_word(rt, word),
     }
 }
 
 // Answers a line: a question, or a word of the program's own.
 fn run(rt: &HostRuntime, line: &[u8]) {
-    let end = within(part_end(line, 0, b' '), line);
-    match word_of(&line[..end]) {
-        Word::Other => run_own(rt, &line[..end], &line[end..]),
-        _ => print_answer(rt, line, true),
+    let (word, rest) = match split_once(line, b' ') {
+        Some((word, rest)) => (word, Some(rest)),
+        None => (line, None),
+    };
+    if word_of(word).is_some() {
+        print_answer(rt, line, true);
+    } else if let Some(own) = own_of(word) {
+        run_own(rt, own, rest);
+    } else {
+        write(rt, EXPECTED);
     }
 }
 

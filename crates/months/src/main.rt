@@ -2,53 +2,35 @@
 // its last day, and the month, or `!` and the number of the refusal. The last line says how many days were asked about.
 #![tactic(auto)]
 
-use calendar::Lookup;
+use refusals::Refusal;
 
 const FROM: u64 = 41_310;
 
 const TO: u64 = 114_370;
 
-fn put(words: &[u8]) {
-    io::write_all(1, words);
+fn print_stretch(rt: &HostRuntime, first: u64, last: u64, answer: Result<u16, Refusal>) {
+    let _ = match answer {
+        Ok(month) => println!(rt; "{first} {last} {month}"),
+        Err(refusal) => {
+            let number = refusal.number();
+            println!(rt; "{first} {last} !{number}")
+        }
+    };
 }
 
-fn same(a: Lookup, b: Lookup) -> bool {
-    if a.number == b.number {
-        return a.month == b.month;
-    }
-    false
-}
-
-fn stretch(first: u64, last: u64, answer: Lookup) {
-    io::print_decimal(1, first);
-    put(b" ");
-    io::print_decimal(1, last);
-    put(b" ");
-    if answer.number == 0 {
-        io::print_decimal(1, answer.month as u64);
-    } else {
-        put(b"!");
-        io::print_decimal(1, answer.number as u64);
-    }
-    put(b"\n");
-}
-
-fn main() {
+fn main(rt: HostRuntime) {
     let mut first = FROM;
     let mut answer = calendar::month_of(FROM);
     let mut asked: u64 = 1;
-    let mut day = FROM + 1;
-    while day <= TO {
+    for day in FROM + 1..=TO {
         let next = calendar::month_of(day);
         asked += 1;
-        if !same(answer, next) {
-            stretch(first, day - 1, answer);
+        if next != answer {
+            print_stretch(&rt, first, day - 1, answer);
             first = day;
             answer = next;
         }
-        day += 1;
     }
-    stretch(first, TO, answer);
-    io::print_decimal(1, asked);
-    put(b" days\n");
+    print_stretch(&rt, first, TO, answer);
+    let _ = println!(rt; "{asked} days");
 }

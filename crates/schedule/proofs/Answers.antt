@@ -3,18 +3,20 @@
 use Rattle.std.proofs.Common.{◌≡◌, ℕ, ◌+◌, ◌<◌, ◌≤◌, true, false, List, ◌++◌, length, drop, ap, ◌∙◌, arith, le-ltb, lt-ltb, le-leb}
 use lib.Seq.{sets, sets-eq}
 use borrow.Author.Tests.{lt-leb}
-use Rattle.schedule.specs.declared.Writing.{Writing}
+use Rattle.refusals.specs.Answer as answer
+use Rattle.refusals.specs.Answer.{require}
+use Rattle.refusals.specs.Refusals.{output_short, not_well_formed, no_gap}
 use Rattle.schedule.specs.Schedule.{Schedule, month_of, last_leap, leaves_gap, well_formed}
-use Rattle.schedule.specs.Answers.{unwritten, fitting, fitted, unwritable, writing, written}
+use Rattle.schedule.specs.Answers.{fitting, fitted, writable, writing, written}
 use Rattle.schedule.proofs.Cases.{by_bool}
 
 module _ (bytes out : List ℕ) where
   -- what writing bytes promises of its answer and of the output
-  abbrev pub Fits : Writing → List ℕ → Type 0
+  abbrev pub Fits : answer.Answer ℕ → List ℕ → Type 0
   Fits r exit = (r ≡ fitting bytes (length out)) × (exit ≡ fitted bytes out)
 
   -- there is room, and the bytes are stored from the start
-  pub fits : (n : ℕ) → n ≡ length bytes → n ≤ length out → (exit : List ℕ) → exit ≡ sets out 0 bytes → Fits (record { number = 0; count = n }) exit
+  pub fits : (n : ℕ) → n ≡ length bytes → n ≤ length out → (exit : List ℕ) → exit ≡ sets out 0 bytes → Fits (answer.given n) exit
   unfolding fitting fitted
   fits n e h exit x =
       let l : length bytes ≤ length out = omega arith in
@@ -23,63 +25,78 @@ module _ (bytes out : List ℕ) where
       (simp (le-leb (length bytes) (length out) l, e), simp (le-leb (length bytes) (length out) l) y)
 
   -- or there is none
-  pub no_room : (n : ℕ) → n ≡ length bytes → length out < n → Fits (unwritten 7) out
+  pub no_room : (n : ℕ) → n ≡ length bytes → length out < n → Fits (answer.refused output_short) out
   unfolding fitting fitted
   no_room n e h =
       let l : length out < length bytes = omega arith in
       (simp (lt-leb (length bytes) (length out) l), simp (lt-leb (length bytes) (length out) l))
 
--- the number with which every writer refuses a schedule
-module _ (s : Schedule) where
-  pub not_formed : well_formed s ≡ false → unwritable s ≡ 11
-  unfolding unwritable
+-- ---- what every writer asks first of a schedule
+
+module _ {A : Type 0} (s : Schedule) (a : answer.Answer A) where
+  pub not_formed : well_formed s ≡ false → writable s a ≡ answer.refused not_well_formed
+  unfolding writable
   not_formed w = simp w
 
-  module _ (w : well_formed s ≡ true) {last month expiry : ℕ} (l : last ≡ last_leap 0 s.leaps) (m : month ≡ month_of expiry) (e : s.expiry ≡ expiry) where
-    pub has_gap : last < month → unwritable s ≡ 0
-    unfolding unwritable
-    has_gap h = simp (w, lt-ltb (last_leap 0 s.leaps) (month_of s.expiry) (omega (arith, ap month_of e)))
+  pub can_write : well_formed s ≡ true → leaves_gap s ≡ true → writable s a ≡ a
+  unfolding writable
+  can_write w g = simp (w, g)
 
-    pub without_gap : month ≤ last → unwritable s ≡ 17
-    unfolding unwritable
-    without_gap h = simp (w, le-ltb (last_leap 0 s.leaps) (month_of s.expiry) (omega (arith, ap month_of e)))
+  pub no_gap_lem : well_formed s ≡ true → leaves_gap s ≡ false → writable s a ≡ answer.refused no_gap
+  unfolding writable
+  no_gap_lem w g = simp (w, g)
 
-  -- 0 says that it can be written
-  pub writable : unwritable s ≡ 0 → (well_formed s ≡ true) × (leaves_gap s ≡ true)
-  unfolding unwritable
-  writable e =
-      by_bool (well_formed s)
-      (λ w. (w, by_bool (leaves_gap s) (λ g. g) (λ g. let z : 17 ≡ 0 = simp (w, g) at e in absurd (omega arith))))
-      (λ w. let z : 11 ≡ 0 = simp w at e in absurd (omega arith))
+  module _ (w : well_formed s ≡ true) {last month : ℕ} (l : last ≡ last_leap 0 s.leaps) (m : month ≡ month_of s.expiry) where
+    pub has_gap : last < month → writable s a ≡ a
+    has_gap h = can_write w (lt-ltb (last_leap 0 s.leaps) (month_of s.expiry) (omega arith))
+
+    pub without_gap : month ≤ last → writable s a ≡ answer.refused no_gap
+    without_gap h = no_gap_lem w (le-ltb (last_leap 0 s.leaps) (month_of s.expiry) (omega arith))
+
+-- words that are no list are none that a writer takes
+pub not_list : {A B : Type 0} (s : Schedule) {n : ℕ} (x : A) (a : answer.Answer B) → answer.refused n ≡ require (well_formed s) not_well_formed (answer.given x) → answer.refused n ≡ writable s a
+not_list s x a e = by_bool (well_formed s) (λ w. absurd (let z = simp w at e in cc)) (λ w. let z = simp w at e in rw (not_formed s a w) cc)
+
+-- words that are a list are the words given
+pub listed : {A : Type 0} (s : Schedule) {x y : A} → answer.given x ≡ require (well_formed s) not_well_formed (answer.given y) → (well_formed s ≡ true) × (x ≡ y)
+listed s e = by_bool (well_formed s) (λ w. let z = simp w at e in (w, cc)) (λ w. absurd (let z = simp w at e in cc))
+
+-- given says that it can be written
+pub writable_lem : {A : Type 0} (s : Schedule) {x y : A} → answer.given x ≡ writable s (answer.given y) → (well_formed s ≡ true) × (leaves_gap s ≡ true) × (x ≡ y)
+writable_lem s {x} {y} e =
+    by_bool (well_formed s)
+    (λ w. by_bool (leaves_gap s) (λ g. let z = e ∙ can_write s (answer.given y) w g in (w, g, cc)) (λ g. let z = e ∙ no_gap_lem s (answer.given y) w g in absurd cc))
+    (λ w. let z = e ∙ not_formed s (answer.given y) w in absurd cc)
 
 -- what a writer promises of its answer and of the output
-abbrev pub Answer : Schedule → List ℕ → List ℕ → Writing → List ℕ → Type 0
+abbrev pub Answer : Schedule → List ℕ → List ℕ → answer.Answer ℕ → List ℕ → Type 0
 Answer s bytes out r exit = (r ≡ writing s bytes (length out)) × (exit ≡ written s bytes out)
 
 module _ (s : Schedule) (bytes out : List ℕ) where
-  formed : well_formed s ≡ true → leaves_gap s ≡ true → {r : Writing} {exit : List ℕ} → Fits bytes out r exit → Answer s bytes out r exit
-  unfolding writing written
-  formed w g f = (rw (w, g) f.0, rw (w, g) f.1)
+  formed : well_formed s ≡ true → leaves_gap s ≡ true → {r : answer.Answer ℕ} {exit : List ℕ} → Fits bytes out r exit → Answer s bytes out r exit
+  unfolding writable writing written
+  formed w g f = (simp (w, g) f.0, simp (w, g) f.1)
 
   pub taken : well_formed s ≡ true → leaves_gap s ≡ true → (n : ℕ) → n ≡ length bytes → n ≤ length out → (exit : List ℕ) → exit ≡ sets out 0 bytes
-      → Answer s bytes out (record { number = 0; count = n }) exit
+      → Answer s bytes out (answer.given n) exit
   taken w g n e h exit x = formed w g (fits bytes out n e h exit x)
 
-  pub short : well_formed s ≡ true → leaves_gap s ≡ true → (n : ℕ) → n ≡ length bytes → length out < n → Answer s bytes out (record { number = 7; count = 0 }) out
+  pub short : well_formed s ≡ true → leaves_gap s ≡ true → (n : ℕ) → n ≡ length bytes → length out < n → Answer s bytes out (answer.refused output_short) out
   short w g n e h = formed w g (no_room bytes out n e h)
 
-  pub no_gap_lem : well_formed s ≡ true → leaves_gap s ≡ false → Answer s bytes out (record { number = 17; count = 0 }) out
-  unfolding writing written
-  no_gap_lem w g = (simp (w, g), simp (w, g))
+  pub gapless : well_formed s ≡ true → leaves_gap s ≡ false → Answer s bytes out (answer.refused no_gap) out
+  unfolding writable writing written
+  gapless w g = (simp (w, g), simp (w, g))
 
-  pub wrong : well_formed s ≡ false → Answer s bytes out (record { number = 11; count = 0 }) out
-  unfolding writing written
+  pub wrong : well_formed s ≡ false → Answer s bytes out (answer.refused not_well_formed) out
+  unfolding writable writing written
   wrong w = (simp w, simp w)
 
-  -- as the code asks: a number other than 0 is the refusal
-  pub refused : (unwritable s ≡ 0 → ⊥) → Answer s bytes out (unwritten (unwritable s)) out
-  unfolding unwritable
-  refused n =
+  -- as the code asks: where a list is not writable, that is the refusal
+  pub refused : {A : Type 0} {n : ℕ} (x : A) → answer.refused n ≡ writable s (answer.given x) → Answer s bytes out (answer.refused n) out
+  refused {A} {n} x e =
       by_bool (well_formed s)
-      (λ w. by_bool (leaves_gap s) (λ g. absurd (n (simp (w, g)))) (λ g. simp (w, g) (no_gap_lem w g)))
-      (λ w. simp w (wrong w))
+      (λ w.
+      by_bool (leaves_gap s) (λ g. let z = e ∙ can_write s (answer.given x) w g in absurd cc)
+      (λ g. let z = e ∙ no_gap_lem s (answer.given x) w g in let k : n ≡ no_gap = cc in rw k (gapless w g)))
+      (λ w. let z = e ∙ not_formed s (answer.given x) w in let k : n ≡ not_well_formed = cc in rw k (wrong w))

@@ -1,10 +1,12 @@
 -- Whether a list extends another, by their words: the longer one has the shorter one's leaps first, and its next leap, if there is one, lies at the
 -- shorter one's expiry or after it.
 -- Assumes nothing.
-use Rattle.std.proofs.Common.{◌≡◌, ℕ, zero, suc, ◌+◌, ◌*◌, ◌/◌, ◌%◌, ◌<◌, ◌≤◌, min, true, false, List, [], ◌∷◌, ◌++◌, length, get_or, take, drop, sym, ap, ◌∙◌, ap₂, le_of_suc-le-suc, not-suc-le-zero, add-one, arith, length-append, take-append-drop, drop_of_length-le, length-take-le, get_or-take, take_at, get_or-append-add, ext_get_or}
+use Rattle.std.proofs.Common.{◌≡◌, ℕ, zero, suc, ◌+◌, ◌*◌, ◌/◌, ◌%◌, ◌<◌, ◌≤◌, min, Bool, true, false, not, List, [], ◌∷◌, ◌++◌, length, get_or, take, drop, sym, ap, ◌∙◌, ap₂, le_of_suc-le-suc, not-suc-le-zero, add-one, arith, length-append, take-append-drop, drop_of_length-le, length-take-le, get_or-take, take_at, get_or-append-add, ext_get_or}
+use Rattle.std.specs.Str.{bytes_eq}
+use Rattle.std.proofs.lemmas.Slice.Eq.{bytes_eq-Decides}
 use native.Mathlib.Decide.{dec_lt}
 use Rattle.schedule.specs.Schedule.{Leap, last_month, month_start, no_leap, is_expired, gaps_fit, well_formed}
-use Rattle.schedule.specs.WordLayout.{count_word, expiry_word, month_word, sign_of, meant, word_of_sign}
+use Rattle.schedule.specs.WordLayout.{count_word, sign_of, meant, word_of_sign}
 use Rattle.schedule.specs.Extends.{Extends, extends}
 use Rattle.schedule.specs.Rules.{AllFrom, ExtendsBy}
 use Rattle.schedule.proofs.Cases.{by_bool}
@@ -13,7 +15,7 @@ use Rattle.schedule.proofs.Gaps.{later, parts}
 use Rattle.schedule.proofs.Formed.{in_use}
 use Rattle.schedule.proofs.Extension.{tests, fails}
 use Rattle.schedule.proofs.InWords.{extends_exactly, rising_from}
-use Rattle.schedule.proofs.Meant.{count_is, count_room, expiry_is, month_word_lem, sign_word, leap_at_lem}
+use Rattle.schedule.proofs.Meant.{all_there, count_is, count_room, month_word_lem, sign_word, leap_at_lem}
 use Rattle.schedule.proofs.WordLayout.{month_in_place, sign_in_place}
 
 -- the gaps after leap i
@@ -30,9 +32,17 @@ first_from : (day : ℕ) (ls : List Leap) → 0 < length ls → AllFrom day ls �
 first_from day [] h f = absurd (omega arith)
 first_from day (l ∷ ls) h f = f.0
 
+-- what the code's comparison of the first words says
+module _ {xs ys : List ℕ} {other : Bool} (e : other ≡ not (bytes_eq xs ys)) where
+  pub unlike : other ≡ true → xs ≡ ys → ⊥
+  unlike t p = let d = (bytes_eq-Decides xs ys).1 p in absurd cc
+
+  pub alike : other ≡ false → xs ≡ ys
+  alike f = (bytes_eq-Decides xs ys).0 (by_bool (bytes_eq xs ys) (λ t. t) (λ n. let z = rw n at e in absurd cc))
+
 module _ (a b : List ℕ) (wa : well_formed (meant a) ≡ true) (wb : well_formed (meant b) ≡ true) where
   abbrev pub Same : Type 0
-  Same = (k : ℕ) → k < 2 * count_word b → get_or a k 0 ≡ get_or b k 0
+  Same = take (2 * count_word b) a ≡ take (2 * count_word b) b
 
   by_further : Extends (meant a) (meant b) → (further : List Leap) × ExtendsBy (meant a) (meant b) further
   by_further x = (extends_exactly (meant a) (meant b) wa wb).0 x
@@ -51,8 +61,8 @@ module _ (a b : List ℕ) (wa : well_formed (meant a) ≡ true) (wb : well_forme
         sym (get_or-take (count_word b) (meant a).leaps i no_leap h)
         ∙ ap (λ (ls : List Leap). get_or ls i no_leap) (ap (take (count_word b)) x.same ∙ take_at (meant b).leaps further (count_word b) (count_is b wb))
 
-    same_words_lem : Same
-    same_words_lem k h =
+    each_word : (k : ℕ) → k < 2 * count_word b → get_or a k 0 ≡ get_or b k 0
+    each_word k h =
         let i = k / 2 in
         let j : i < count_word b = omega arith in
         elim (dec_lt (k % 2) 1) [
@@ -63,6 +73,17 @@ module _ (a b : List ℕ) (wa : well_formed (meant a) ≡ true) (wb : well_forme
               let z : k ≡ 2 * i + 1 = omega arith in
               rw z (sign_word a wa i (omega (arith, enough)) ∙ (ap (λ (l : Leap). word_of_sign l.sign) (same_leap_lem i j) ∙ sym (sign_word b wb i j)))
         ]
+
+    same_words_lem : Same
+    same_words_lem =
+        let n = 2 * count_word b in
+        let room : n ≤ 514 = omega (arith, count_room b wb) in
+        let ta : length (take n a) ≡ n = length-take-le n a (omega (arith, all_there a wa)) in
+        let tb : length (take n b) ≡ n = length-take-le n b (omega (arith, all_there b wb)) in
+        ext_get_or 0 (take n a) (take n b) (ta ∙ sym tb)
+        (λ k h.
+        let small : k < n = omega arith in
+        get_or-take n a k 0 small ∙ (each_word k small ∙ sym (get_or-take n b k 0 small)))
 
     next : count_word b < count_word a → (meant b).expiry ≤ month_start (get_or (meant a).leaps (count_word b) no_leap).month
     next h =
@@ -86,12 +107,16 @@ module _ (a b : List ℕ) (wa : well_formed (meant a) ≡ true) (wb : well_forme
 
   -- the same leaps, and further ones, if any, from the expiry on
   module _ (later-expiry : (meant b).expiry ≤ (meant a).expiry) (room : count_word b ≤ count_word a) (same : Same) where
+    same_at : (k : ℕ) → k < 2 * count_word b → get_or a k 0 ≡ get_or b k 0
+    same_at k h =
+        sym (get_or-take (2 * count_word b) a k 0 h) ∙ (ap (λ (ws : List ℕ). get_or ws k 0) same ∙ get_or-take (2 * count_word b) b k 0 h)
+
     leap_same : (i : ℕ) → i < count_word b → get_or (meant a).leaps i no_leap ≡ get_or (meant b).leaps i no_leap
     leap_same i h =
         let small : i < 256 = omega (arith, count_room b wb) in
         leap_at_lem a wa i
-        ∙ (leap_path (month_in_place a i small ∙ (same (2 * i) (omega arith) ∙ sym (month_in_place b i small)))
-        (ap sign_of (sign_in_place a i small ∙ (same (2 * i + 1) (omega arith) ∙ sym (sign_in_place b i small))))
+        ∙ (leap_path (month_in_place a i small ∙ (same_at (2 * i) (omega arith) ∙ sym (month_in_place b i small)))
+        (ap sign_of (sign_in_place a i small ∙ (same_at (2 * i + 1) (omega arith) ∙ sym (sign_in_place b i small))))
         ∙ sym (leap_at_lem b wb i))
 
     first_leaps : take (count_word b) (meant a).leaps ≡ (meant b).leaps
@@ -125,11 +150,9 @@ module _ (a b : List ℕ) (wa : well_formed (meant a) ≡ true) (wb : well_forme
         ))
 
     -- so the next leap's month tells, as the code asks about it
-    pub tells : count_word b < count_word a → {expiry month : ℕ} → expiry ≡ expiry_word b → month ≡ month_word a (count_word b)
+    pub tells : count_word b < count_word a → {expiry month : ℕ} → expiry ≡ (meant b).expiry → month ≡ (get_or (meant a).leaps (count_word b) no_leap).month
         → is_expired expiry (min month last_month) ≡ extends (meant a) (meant b)
     tells h {expiry} {month} e m =
-        let is : expiry ≡ (meant b).expiry = e ∙ sym (expiry_is b wb) in
-        let at : month ≡ (get_or (meant a).leaps (count_word b) no_leap).month = m ∙ ap (λ (l : Leap). l.month) (sym (leap_at_lem a wa (count_word b))) in
         expired_past expiry month (omega (arith, (parts (meant b) wb).end))
-        ∙ (ap₂ is_expired is at
+        ∙ (ap₂ is_expired e m
         ∙ by_bool (is_expired (meant b).expiry (get_or (meant a).leaps (count_word b) no_leap).month) (λ t. t ∙ sym (goes_on h t)) (λ f. f ∙ sym (too_early h f)))

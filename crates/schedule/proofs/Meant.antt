@@ -11,9 +11,9 @@ use Rattle.schedule.specs.WordLayout.{count_word, expiry_word, sign_of, leap_at,
 use Rattle.schedule.specs.Answers.{Reading, HandsReading}
 use Rattle.schedule.specs.Private.{signs_fit, RestClear}
 use Rattle.schedule.proofs.Cases.{by_bool}
-use Rattle.schedule.proofs.Gaps.{parts, well_by, blank_refused}
+use Rattle.schedule.proofs.Gaps.{before_end, parts, well_by, blank_refused}
 use Rattle.schedule.proofs.Sound.{Formed}
-use Rattle.schedule.proofs.WordLayout.{past_leaps, same_each, each_same, sign_back, month_of_words, sign_of_words, unused_words, count_of_words, expiry_of_words, all_words, month_in_place, sign_in_place, month_past, sign_past, laid_length, laid_leap}
+use Rattle.schedule.proofs.WordLayout.{past_end, past_leaps, same_each, each_same, sign_back, month_of_words, sign_of_words, unused_words, count_of_words, expiry_of_words, all_words, month_in_place, sign_in_place, month_past, sign_past, laid_length, laid_leap}
 
 -- a word that a sign has, 0 or 1, is the word of the sign that it means
 word_back : (n : ℕ) → n < 2 → word_of_sign (sign_of n) ≡ n
@@ -61,6 +61,15 @@ module _ (words : List ℕ) where
 
     pub expiry_is : (meant words).expiry ≡ expiry_word words
     expiry_is = ap (λ (s : Schedule). s.expiry) meant_laid
+
+    -- no word is missing: the last one, the expiry, is greater than 0
+    pub all_there : 514 ≤ length words
+    all_there =
+        elim (dec_lt (length words) 514) [
+          | yes l ↦
+              absurd (omega (arith, expiry_is, past_end words 513 (omega arith), before_end (meant words).leaps 0 (meant words).expiry (parts (meant words) w).gaps))
+          | no l ↦ omega arith
+        ]
 
     each : (k : ℕ) → k < 514 → get_or words k 0 ≡ get_or (words_of (laid_out words)) k 0
     each k h = same_each 514 words (words_of (laid_out words)) same k h

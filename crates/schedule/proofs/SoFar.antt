@@ -1,12 +1,14 @@
 -- The words that a reader fills: at the start, with one leap more, with the count and the expiry at the end, and where the reading is refused.
 -- Assumes nothing.
-use Rattle.std.proofs.Common.{◌≡◌, ℕ, zero, suc, ◌+◌, ◌-◌, ◌*◌, ◌<◌, List, [], ◌∷◌, ◌++◌, length, set, sym, refl, ap, ◌∙◌, append_assoc, arith, length-append}
+use Rattle.std.proofs.Common.{◌≡◌, ℕ, zero, suc, ◌+◌, ◌-◌, ◌*◌, ◌<◌, List, [], ◌∷◌, ◌++◌, Ok, Err, length, set, sym, refl, ap, ◌∙◌, append_assoc, arith, length-append}
 use lib.ListN.{length-replicate}
 use lib.Seq.{set_at}
+use Rattle.refusals.specs.declared.Refusal.{Refusal}
+use Rattle.refusals.specs.Refusals.{number_of}
 use Rattle.schedule.specs.declared.Sign.{Sign}
 use Rattle.schedule.specs.Schedule.{Leap, Schedule, blank_schedule}
 use Rattle.schedule.specs.WordLayout.{word_of_sign, leap_words, zeroes, words_of}
-use Rattle.schedule.specs.Answers.{refusal, accepted, with_leap, HandsReading}
+use Rattle.schedule.specs.Answers.{refusal, accepted, with_leap, ReadsInto}
 use Rattle.schedule.specs.Private.{SoFar}
 use Rattle.schedule.proofs.WordLayout.{words_length}
 
@@ -55,7 +57,7 @@ module _ (s : Schedule) (n : ℕ) (words : List ℕ) (k : SoFar s n words) where
       }
 
   -- a list that is taken is the count and the expiry, stored after the leaps
-  pub so_far_end : (e : ℕ) → HandsReading (accepted s e) 0 (set (set words 512 n) 513 e) 0
+  pub so_far_end : (e : ℕ) → ReadsInto (accepted s e) (Ok tt) (set (set words 512 n) 513 e)
   unfolding words_of
   so_far_end e =
       let spare : ℕ = 512 - 2 * length s.leaps in
@@ -73,6 +75,6 @@ module _ (s : Schedule) (n : ℕ) (words : List ℕ) (k : SoFar s n words) where
       }
 
 -- a refusal hands over 514 words 0: those of the blank schedule
-pub so_far_refusal : (number place : ℕ) → HandsReading (refusal number place) number (zeroes 514) place
+pub so_far_refused : (r : Refusal) (place : ℕ) → ReadsInto (refusal (number_of r) place) (Err (record { refusal = r; place = place })) (zeroes 514)
 unfolding words_of leap_words
-so_far_refusal number place = record { its_number = refl; its_words = refl; its_place = refl }
+so_far_refused r place = record { its_number = refl; its_words = refl; its_place = refl }

@@ -27,7 +27,7 @@ small_month s w i = used_month s.leaps 0 s.expiry (parts s w).gaps (parts s w).e
 
 -- ---- lists of words
 
-past_end : (xs : List ℕ) (i : ℕ) → length xs ≤ i → get_or xs i 0 ≡ 0
+pub past_end : (xs : List ℕ) (i : ℕ) → length xs ≤ i → get_or xs i 0 ≡ 0
 past_end [] i h = refl
 past_end (x ∷ xs) zero h = absurd (omega arith)
 past_end (x ∷ xs) (suc i) h = past_end xs i (le_of_suc-le-suc h)

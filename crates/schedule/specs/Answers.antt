@@ -1,9 +1,10 @@
 -- What readers and writers answer, and what a reader hands over as words.
 -- Assumes nothing: these are definitions.
-use Rattle.std.specs.Prelude.{◌≡◌, ℕ, cond, ◌&&◌, List, [], ◌∷◌, ◌++◌, length, drop, ◌==◌, nat_le}
-use Rattle.refusals.specs.Refusals.{output_short, not_well_formed, no_gap}
+use Rattle.std.specs.Prelude.{◌≡◌, ℕ, cond, ◌&&◌, List, [], ◌∷◌, ◌++◌, Result, Ok, Err, length, drop, ◌==◌, nat_le}
+use Rattle.refusals.specs.Refusals.{output_short, not_well_formed, no_gap, number_of}
+use Rattle.refusals.specs.Answer.{Answer, given, require}
 use Rattle.schedule.specs.declared.Sign.{Sign}
-use Rattle.schedule.specs.declared.Writing.{Writing}
+use Rattle.schedule.specs.declared.ParseError.{ParseError}
 use Rattle.schedule.specs.Schedule.{Schedule, blank_schedule, leaves_gap, well_formed}
 use Rattle.schedule.specs.WordLayout.{words_of}
 
@@ -35,25 +36,38 @@ pub record HandsReading (reading : Reading) (number : ℕ) (words : List ℕ) (p
   pub its_words : words ≡ words_of reading.schedule
   pub its_place : place ≡ reading.place
 
--- a writer that refuses returns the number and 0 bytes
-abbrev pub unwritten : ℕ → Writing
-unwritten n = record { number = n; count = 0 }
+-- the number and the place in a reader's result: those of its refusal, or 0 and 0
+abbrev pub number_in : Result (Unit {0}) ParseError → ℕ
+number_in (Ok v) = 0
+number_in (Err e) = number_of e.refusal
+
+abbrev pub place_in : Result (Unit {0}) ParseError → ℕ
+place_in (Ok v) = 0
+place_in (Err e) = e.place
+
+-- the same of a reader's result: it is the reading's number and place, and the words are those of the reading's schedule
+pub record ReadsInto (reading : Reading) (outcome : Result (Unit {0}) ParseError) (words : List ℕ) : Type 0 where
+  pub its_number : number_in outcome ≡ reading.number
+  pub its_words : words ≡ words_of reading.schedule
+  pub its_place : place_in outcome ≡ reading.place
 
 -- what writing bytes answers: 7 where the output has no room for them, else their count
-unfoldable pub fitting : List ℕ → ℕ → Writing
-fitting bytes room = cond (nat_le (length bytes) room) (record { number = 0; count = length bytes }) (unwritten output_short)
+unfoldable pub fitting : List ℕ → ℕ → Answer ℕ
+fitting bytes room = require (nat_le (length bytes) room) output_short (given (length bytes))
 
 -- what the output then holds: the bytes and, beyond them, what it held; what it held where it has no room for them
 unfoldable pub fitted : List ℕ → List ℕ → List ℕ
 fitted bytes out = cond (nat_le (length bytes) (length out)) (bytes ++ drop (length bytes) out) out
 
--- the number with which every writer refuses a schedule, whatever the output: 11, then 17; 0 where it can be written
-unfoldable pub unwritable : Schedule → ℕ
-unwritable s = cond (well_formed s) (cond (leaves_gap s) 0 no_gap) not_well_formed
+-- what every writer asks first of a schedule, whatever the output: 11, then 17, else the answer
+unfoldable pub writable : {A : Type 0} → Schedule → Answer A → Answer A
+writable s answer =
+    require (well_formed s) not_well_formed
+    (require (leaves_gap s) no_gap answer)
 
 -- what a writer answers whose list of a schedule is `bytes`: refusal 11, then 17, then 7, else the count of bytes
-unfoldable pub writing : Schedule → List ℕ → ℕ → Writing
-writing s bytes room = cond (well_formed s) (cond (leaves_gap s) (fitting bytes room) (unwritten no_gap)) (unwritten not_well_formed)
+unfoldable pub writing : Schedule → List ℕ → ℕ → Answer ℕ
+writing s bytes room = writable s (fitting bytes room)
 
 -- what the output then holds: the list and, beyond it, what it held; what it held where the writer refuses
 unfoldable pub written : Schedule → List ℕ → List ℕ → List ℕ

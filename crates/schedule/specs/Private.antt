@@ -14,11 +14,6 @@ pub record SoFar (s : Schedule) (count : ℕ) (words : List ℕ) : Type 0 where
   pub room : count ≤ max_leaps
   pub its_words : words ≡ leap_words s.leaps ++ zeroes (514 - 2 * count)
 
--- the words of the first places of two lists are equal, or not
-pub record SameLeaps (a b : List ℕ) (n : ℕ) (same : Bool) : Type 0 where
-  pub all : same ≡ true → (k : ℕ) → k < 2 * n → slice_index a k ≡ slice_index b k
-  pub none : same ≡ false → ((k : ℕ) → k < 2 * n → slice_index a k ≡ slice_index b k) → ⊥
-
 -- the words of the places after the first `count` are all 0, or not
 pub record RestClear (words : List ℕ) (count : ℕ) (clear : Bool) : Type 0 where
   pub all : clear ≡ true → (k : ℕ) → 2 * count ≤ k → k < 512 → slice_index words k ≡ 0

@@ -4,7 +4,7 @@ ghost use Rattle.schedule.specs.Schedule.{max_leaps, end_day, gap_fits, expiry_f
 ghost use Rattle.schedule.specs.WordLayout.{count_word, expiry_word, laid_out};
 ghost use Rattle.schedule.specs.Private.{great_month, signs_fit, RestClear};
 
-use crate::{FIRST_DAY, LAST_MONTH, MAX_GAP, wide};
+use crate::{FIRST_DAY, LAST_MONTH, MAX_GAP};
 
 // 0 if the gap from a month to another is 1 to 999, else 1. One comparison sees both ends: a gap below 1 wraps round to a great number. From a
 // month as great as no list has, a gap may wrap too.
@@ -36,9 +36,9 @@ pub(crate) fn expiry_misfit(from: u32, expiry: u32) -> u32
             return 0;
         }
     }
-    let month = wide(calendar::latest_month(expiry as u64));
+    let month = u32::from(calendar::latest_month(u64::from(expiry)));
     if month == from {
-        if calendar::is_first(expiry as u64) {
+        if calendar::is_first(u64::from(expiry)) {
             return 1;
         }
         return 0;
@@ -56,32 +56,19 @@ fn unsigned(negative: u32) -> u32
     1
 }
 
-// 1 if two words differ, else 0.
-pub(crate) fn differ(x: u32, y: u32) -> u32
-    ensures { ((result == 0) ≡ (x == y)) × (result ≤ 1) }
-{
-    if x == y {
-        return 0;
-    }
-    1
-}
-
 // Whether the gaps are 1 to 999 months, from month 0 over the leaps in use, the expiry fits the last, and the sign words are 0 or 1.
 pub(crate) fn leaps_fit(words: &[u32; 514]) -> bool
     requires { (count_word words.now ≤ max_leaps) × (expiry_word words.now ≤ end_day) }
     ensures { result ≡ (signs_fit words.now (count_word words.now) && gaps_fit 0 (laid_out words.now).leaps (expiry_word words.now)) }
 {
-    let count = words[512];
     let mut signs: u32 = 0;
     let mut faults: u32 = 0;
     let mut last: u32 = 0;
-    let mut i: usize = 0;
-    while i < count as usize {
+    for i in 0..words[512] as usize {
         let at = words[2 * i];
         signs += unsigned(words[2 * i + 1]);
         faults += misfit(last, at);
         last = at;
-        i += 1;
     }
     faults += expiry_misfit(last, words[513]);
     signs + faults == 0
@@ -92,12 +79,9 @@ pub(crate) fn rest_clear(words: &[u32; 514]) -> bool
     requires { count_word words.now ≤ max_leaps }
     ensures { RestClear words.now (count_word words.now) result }
 {
-    let count = words[512];
     let mut rest: u32 = 0;
-    let mut j = 2 * count as usize;
-    while j < 512 {
-        rest |= words[j];
-        j += 1;
+    for word in &words[2 * words[512] as usize..512] {
+        rest |= *word;
     }
     rest == 0
 }

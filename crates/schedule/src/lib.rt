@@ -2,14 +2,19 @@
 // read, and what readers and writers of them answer is told.
 #![tactic(auto)]
 
-ghost use Rattle.std.specs.Prelude.{◌≡◌, ◌*◌, ◌≤◌, min, true, ◌&&◌};
-ghost use Rattle.schedule.specs.Schedule.{max_leaps, last_month, month_start, month_of, is_expired, last_leap, well_formed};
+ghost use Rattle.std.specs.Prelude.{◌≡◌, min, ◌&&◌};
+ghost use Rattle.refusals.specs.Answer.{given, answer_by};
+ghost use Rattle.refusals.specs.Refusals.{number_of};
+ghost use Rattle.schedule.specs.Schedule.{last_month, month_start, is_expired, well_formed};
 ghost use Rattle.schedule.specs.Extends.{extends};
 ghost use Rattle.schedule.specs.WordLayout.{count_word, expiry_word, month_word, sign_word, sign_of, meant, word_of_sign};
-ghost use Rattle.schedule.specs.Answers.{refusal, unwritable, HandsReading};
-ghost use Rattle.schedule.specs.Private.{SameLeaps};
+ghost use Rattle.schedule.specs.Answers.{refusal, writable, ReadsInto};
 
 mod check; // check.rt: the faults of words that are not those of a well-formed schedule
+pub mod list; // list.rt: words that are known to be a list
+
+pub use list::List;
+use refusals::Refusal;
 
 // A schedule has at most 256 leaps.
 pub const MAX_LEAPS: usize = 256;
@@ -26,57 +31,40 @@ const FIRST_DAY: u32 = calendar::FIRST_DAY as u32;
 // Month 2400 starts on this day; an expiry is no later.
 pub const END_DAY: u32 = calendar::END_DAY as u32;
 
-#[derive(Clone, Copy)]
+#[derive(Clone, Copy, Debug, PartialEq, Eq)]
 pub enum Sign {
     Positive,
     Negative,
 }
 
-// What a writer answers: number 0 and the count of bytes written, or a refusal's number and 0.
-#[derive(Clone, Copy)]
-pub struct Writing {
-    pub number: u8,
-    pub count: usize,
+// Why a list does not read, and where.
+#[derive(Clone, Copy, Debug, PartialEq, Eq)]
+pub struct ParseError {
+    pub refusal: Refusal,
+    pub place: usize,
 }
 
-// A month as a wider number.
-pub fn wide(x: u16) -> u32
-    ensures { result ≡ x }
-{
-    x as u32
-}
-
-// A word as a wider number.
-fn size(x: u32) -> usize
-    ensures { result ≡ x }
-{
-    x as usize
-}
-
-fn long(x: u32) -> u64
-    ensures { result ≡ x }
-{
-    x as u64
-}
-
-// The word of a sign.
-pub fn word_of_sign(sign: Sign) -> u32
-    ensures { result ≡ word_of_sign sign }
-{
-    match sign {
-        Sign::Positive => 0,
-        Sign::Negative => 1,
+impl Sign {
+    // The sign of a word.
+    pub fn of(word: u32) -> Sign
+        ensures { result ≡ sign_of word }
+    {
+        if word == 0 {
+            Sign::Positive
+        } else {
+            Sign::Negative
+        }
     }
 }
 
-// The sign of a word.
-pub fn sign_of(word: u32) -> Sign
-    ensures { result ≡ sign_of word }
-{
-    if word == 0 {
-        Sign::Positive
-    } else {
-        Sign::Negative
+impl From<Sign> for u32 {
+    ghost from_gives = { λ sign word. word ≡ word_of_sign sign };
+
+    fn from(sign: Sign) -> u32 {
+        match sign {
+            Sign::Positive => 0,
+            Sign::Negative => 1,
+        }
     }
 }
 
@@ -84,7 +72,7 @@ pub fn sign_of(word: u32) -> Sign
 pub fn count_of(words: &[u32; 514]) -> usize
     ensures { result ≡ count_word words.now }
 {
-    size(words[512])
+    words[512] as usize
 }
 
 // The month of leap i, 0 where there is no such place.
@@ -102,9 +90,9 @@ pub fn sign_at(words: &[u32; 514], i: usize) -> Sign
     ensures { result ≡ sign_of (sign_word words.now i) }
 {
     if MAX_LEAPS <= i {
-        return sign_of(0);
+        return Sign::Positive;
     }
-    sign_of(words[2 * i + 1])
+    Sign::of(words[2 * i + 1])
 }
 
 // The day on which the list expires.
@@ -114,13 +102,15 @@ pub fn expiry_of(words: &[u32; 514]) -> u32
     words[513]
 }
 
-// Hands a reader's refusal over: its number, its place and the words of the blank schedule.
-pub fn hand_refusal(number: u8, at: usize, out: &mut [u32; 514], place: &mut u64) -> u8
-    ensures { HandsReading (refusal number at) result out.new place.new }
+// A reader's refusal, and the words of the blank schedule.
+pub fn refuse(why: Refusal, place: usize, out: &mut [u32; 514]) -> Result<(), ParseError>
+    ensures { ReadsInto (refusal (number_of why) place) result out.new }
 {
     *out = [0u32; 514];
-    *place = at as u64;
-    number
+    Err(ParseError {
+        refusal: why,
+        place,
+    })
 }
 
 // Whether words are those of a well-formed schedule; any words at all may be given.
@@ -157,71 +147,36 @@ pub fn is_expired(expiry: u32, month: u32) -> bool
     expiry <= expiry_at(month)
 }
 
-// The month to which the writers round the expiry down.
-pub fn expiry_month(words: &[u32; 514]) -> u32
-    ensures { result ≡ month_of (expiry_word words.now) }
+// Words as a list that every writer takes. It is refused with 11, or with 17 where rounding the expiry down leaves no gap.
+pub fn writable(words: &[u32; 514]) -> Result<List<'_>, Refusal>
+    ensures { answer_by (λ list. list.words.now) result ≡ writable (meant words.now) (given words.now) }
 {
-    wide(calendar::latest_month(long(words[513])))
-}
-
-// The month of the last leap of a list, or month 0 where there is none.
-fn last_leap(words: &[u32; 514]) -> u32
-    requires { well_formed (meant words.now) ≡ true }
-    ensures { result ≡ last_leap 0 (meant words.now).leaps }
-{
-    let n = count_of(words);
-    if n == 0 {
-        return 0;
+    let list = List::of(words)?;
+    if list.last_leap() < list.expiry_month() {
+        return Ok(list);
     }
-    month_at(words, n - 1)
-}
-
-// The number with which every writer refuses a list: 11, or 17 where rounding the expiry down leaves no gap; else 0.
-pub fn unwritable(words: &[u32; 514]) -> u8
-    ensures { result ≡ unwritable (meant words.now) }
-{
-    if !is_list(words) {
-        return refusals::NOT_WELL_FORMED;
-    }
-    if last_leap(words) < expiry_month(words) {
-        return 0;
-    }
-    refusals::NO_GAP
-}
-
-// Whether the first n leaps of two lists are equal in month and sign.
-fn same_leaps(a: &[u32; 514], b: &[u32; 514], n: usize) -> bool
-    requires { n ≤ max_leaps }
-    ensures { SameLeaps a.now b.now n result }
-{
-    let mut faults: u32 = 0;
-    let mut j: usize = 0;
-    while j < 2 * n {
-        faults += check::differ(a[j], b[j]);
-        j += 1;
-    }
-    faults == 0
+    Err(Refusal::NoGap)
 }
 
 // Whether a list goes on from another: it has the other's leaps first, and then, at the other's expiry or after it, its own.
-fn goes_on(longer: &[u32; 514], shorter: &[u32; 514]) -> bool
-    requires { (well_formed (meant longer.now) ≡ true) × (well_formed (meant shorter.now) ≡ true) }
-    ensures { result ≡ extends (meant longer.now) (meant shorter.now) }
+fn goes_on(longer: List<'_>, shorter: List<'_>) -> bool
+    ensures { result ≡ extends (meant longer.entry.words.now) (meant shorter.entry.words.now) }
 {
-    let expiry = expiry_of(shorter);
-    if expiry_of(longer) < expiry {
+    let expiry = shorter.expiry();
+    if longer.expiry() < expiry {
         return false;
     }
-    let m = count_of(shorter);
-    let n = count_of(longer);
+    let m = shorter.count();
+    let n = longer.count();
     if n < m {
         return false;
     }
-    if !same_leaps(longer, shorter, m) {
+    let (all, first) = (longer.words, shorter.words);
+    if all[..2 * m] != first[..2 * m] {
         return false;
     }
     if m < n {
-        return is_expired(expiry, month_at(longer, m));
+        return is_expired(expiry, longer.month(m));
     }
     true
 }
@@ -230,11 +185,11 @@ fn goes_on(longer: &[u32; 514], shorter: &[u32; 514]) -> bool
 pub fn extends(longer: &[u32; 514], shorter: &[u32; 514]) -> bool
     ensures { result ≡ (well_formed (meant longer.now) && well_formed (meant shorter.now) && extends (meant longer.now) (meant shorter.now)) }
 {
-    if !is_list(longer) {
+    let Ok(longer) = List::of(longer) else {
         return false;
-    }
-    if !is_list(shorter) {
+    };
+    let Ok(shorter) = List::of(shorter) else {
         return false;
-    }
+    };
     goes_on(longer, shorter)
 }

@@ -8,10 +8,7 @@ use std::io;
 pub fn within(n: usize, bytes: &[u8]) -> usize
     ensures { IsPrefixLen result bytes.now }
 {
-    if n < bytes.len() {
-        return n;
-    }
-    bytes.len()
+    n.min(bytes.len())
 }
 
 // A system's message without its number.

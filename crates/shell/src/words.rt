@@ -2,28 +2,21 @@
 ghost use Rattle.std.specs.Prelude.{◌≡◌};
 ghost use Rattle.shell.specs.Words.{own_of};
 
-use ascii::parts::same;
-
-#[derive(Clone, Copy)]
+#[derive(Clone, Copy, Debug, PartialEq, Eq)]
 pub enum Own {
     Ask,
     Replay,
     Help,
-    Other,
 }
 
-// The word of the program's own that a word is.
-pub fn own_of(word: &[u8]) -> Own
+// The word of the program's own that a word is, if it is one.
+pub fn own_of(word: &[u8]) -> Option<Own>
     ensures { result ≡ own_of word.now }
 {
-    if same(word, b"ask") {
-        return Own::Ask;
+    match word {
+        b"ask" => Some(Own::Ask),
+        b"replay" => Some(Own::Replay),
+        b"help" => Some(Own::Help),
+        _ => None,
     }
-    if same(word, b"replay") {
-        return Own::Replay;
-    }
-    if same(word, b"help") {
-        return Own::Help;
-    }
-    Own::Other
 }

@@ -1,65 +1,42 @@
--- `ascii::decimal::read_decimal` meets its contract. The loop's invariant: the bytes up to `i` are the digits of n, and the others decide.
+-- `ascii::decimal::read_decimal` meets its contract. The loop's invariant: the bytes so far are the digits of n, and the others decide.
 -- Assumes nothing.
 use borrow.Author.Rules.{rules}
 use native.Mathlib.Omega.{arith}
-use mathlib.Core.Path.{sym, ◌∙◌}
+use borrow.Author.Tests.{eqb-true, eqb-false}
+use mathlib.Core.Path.{◌≡◌, refl, sym, ◌∙◌}
+use Prim.Native.Nat.{◌+◌, ◌*◌}
+use Rattle.ascii.specs.Ascii.{zero_byte, nine_byte}
+use Rattle.ascii.proofs.Bytes.{within_is}
 use Rattle.ascii.proofs.Digits as digits
-use Rattle.ascii.proofs.Digits.{number_after}
 use Rattle.ascii.proofs.decimal.read_decimal.Goals as goal
 
-pub returns-then-field-eq0 : goal.returns-then-field-eq0
-returns-then-field-eq0 c = sym (digits.empty _ c.if-field-eq0.true)
+pub returns-then-is_empty : goal.returns-then-is_empty
+returns-then-is_empty c = sym (digits.empty _ (eqb-true _ _ (sym c.is_empty.ensures ∙ c.if-is_empty.true)))
 
-pub loop-i-init : goal.loop-i-init
-loop-i-init c =
-    let if1 = c.if-field-eq0 in
-    (search rules, (search rules, digits.begins _ if1.false))
+pub loop-b-init : goal.loop-b-init
+loop-b-init c = (search rules, digits.begins _ (eqb-false _ _ (sym c.is_empty.ensures ∙ c.if-is_empty.false)))
 
 pub returns-then-not-is_digit : goal.returns-then-not-is_digit
 returns-then-not-is_digit c =
-    let loop = c.loop-i in
-    let loop_test = c.loop-i-test in
-    let is_digit = c.is_digit in
-    let if2 = c.if-not-is_digit in
-    sym (loop.invariant.1.1 ∙ digits.no_digit _ _ _ loop_test.true (sym is_digit.ensures ∙ if2.true))
+    sym (c.loop-b.invariant.1 ∙ digits.no_digit _ _ _ c.loop-b-test.true (sym c.is_digit.ensures ∙ c.if-not-is_digit.true))
 
-pub digit_of-d-requires : goal.digit_of-d-requires
-digit_of-d-requires c =
-    let is_digit = c.is_digit in
-    let if2 = c.if-not-is_digit in
-    sym is_digit.ensures ∙ if2.false
+pub returns-in_err-checked_mul : goal.returns-in_err-checked_mul
+returns-in_err-checked_mul c =
+    c.from_residual.ensures
+    ∙ sym (c.loop-b.invariant.1 ∙ digits.too_large _ _ _ c.loop-b-test.true (sym c.is_digit.ensures ∙ c.if-not-is_digit.false) _ refl (omega (arith, c.in_err-checked_mul.ensures)))
 
-pub returns-then-n : goal.returns-then-n
-returns-then-n c =
-    let loop = c.loop-i in
-    let loop_test = c.loop-i-test in
-    let is_digit = c.is_digit in
-    let if2 = c.if-not-is_digit in
-    let digit_of = c.digit_of-d in
-    let if3 = c.if-n in
-    sym (loop.invariant.1.1 ∙ digits.too_large _ _ _ loop_test.true (sym is_digit.ensures ∙ if2.false) _ digit_of.ensures.0 (omega (arith, if3.true)))
+pub overflow_sub-b : goal.overflow_sub-b
+overflow_sub-b c = (within_is zero_byte nine_byte _ (sym c.is_digit.ensures ∙ c.if-not-is_digit.false)).0
 
-pub returns-then-d-tens : goal.returns-then-d-tens
-returns-then-d-tens c =
-    let loop = c.loop-i in
-    let loop_test = c.loop-i-test in
-    let is_digit = c.is_digit in
-    let if2 = c.if-not-is_digit in
-    let digit_of = c.digit_of-d in
-    let if4 = c.if-d-tens in
-    sym (loop.invariant.1.1 ∙ digits.too_large _ _ _ loop_test.true (sym is_digit.ensures ∙ if2.false) _ digit_of.ensures.0 (omega (arith, if4.true)))
+pub returns-in_err-n : goal.returns-in_err-n
+returns-in_err-n c =
+    c.from_residual-in_err-n.ensures
+    ∙ sym (c.loop-b.invariant.1 ∙ digits.too_large _ _ _ c.loop-b-test.true (sym c.is_digit.ensures ∙ c.if-not-is_digit.false) _ c.from.ensures (omega (arith, c.in_ok-checked_mul.ensures, c.in_err-n.ensures)))
 
-pub loop-i-preserved : goal.loop-i-preserved
-loop-i-preserved c =
-    let loop = c.loop-i in
-    let loop_test = c.loop-i-test in
-    let is_digit = c.is_digit in
-    let if2 = c.if-not-is_digit in
-    let digit_of = c.digit_of-d in
-    (search rules, (search rules, loop.invariant.1.1 ∙ digits.more _ _ _ loop_test.true (sym is_digit.ensures ∙ if2.false) _ digit_of.ensures.0))
+pub loop-b-preserved : goal.loop-b-preserved
+loop-b-preserved c =
+    let sum : c.in_ok-n.n ≡ c.loop-b.n * 10 + c.from.result = omega (arith, c.in_ok-checked_mul.ensures, c.in_ok-n.ensures) in
+    (omega (arith, c.in_ok-n.ensures), c.loop-b.invariant.1 ∙ rw sum (digits.more _ _ _ c.loop-b-test.true (sym c.is_digit.ensures ∙ c.if-not-is_digit.false) _ c.from.ensures))
 
 pub returns : goal.returns
-returns c =
-    let loop = c.loop-i in
-    let loop_test = c.loop-i-test in
-    sym (loop.invariant.1.1 ∙ digits.done _ _ _ loop_test.false loop.invariant.1.0)
+returns c = sym (c.loop-b.invariant.1 ∙ digits.done _ _ _ c.loop-b-test.false c.loop-b.invariant.0)

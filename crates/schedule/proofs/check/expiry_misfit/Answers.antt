@@ -1,6 +1,7 @@
 -- `schedule::check::expiry_misfit` meets its contract: by bounds of the months' starts, or by the number of the expiry day's month.
 -- Assumes nothing.
-use Rattle.std.proofs.Common.{true, false, sym, ◌∙◌, arith}
+use Rattle.std.proofs.Common.{true, false, sym, ap, ◌∙◌, arith}
+use Rattle.calendar.specs.Calendar.{month_of, starts_month}
 use Rattle.schedule.proofs.ByNumber.{past_all, before_all, between, same_month, other_month}
 use Rattle.schedule.proofs.check.expiry_misfit.Goals as goal
 
@@ -29,7 +30,6 @@ returns-then-expiry-from c =
 
 pub returns-then-is_first : goal.returns-then-is_first
 returns-then-is_first c =
-    let wide = c.wide-month in
     let latest_month = c.latest_month in
     let args = c.args in
     let pre = c.requires in
@@ -37,12 +37,11 @@ returns-then-is_first c =
     let if5 = c.if-month-from in
     let if6 = c.if-is_first in
     let is_first = c.is_first in
-    let month = wide.ensures ∙ latest_month.ensures in
-    (sym (same_month args.from args.expiry pre if2.false month if5.true true (sym if6.true ∙ is_first.ensures)), omega arith)
+    let month = c.from-month.ensures ∙ (latest_month.ensures ∙ ap month_of c.from.ensures) in
+    (sym (same_month args.from args.expiry pre if2.false month if5.true true (sym if6.true ∙ (is_first.ensures ∙ ap starts_month c.from-then-month-from.ensures))), omega arith)
 
 pub returns-then-month-from : goal.returns-then-month-from
 returns-then-month-from c =
-    let wide = c.wide-month in
     let latest_month = c.latest_month in
     let args = c.args in
     let pre = c.requires in
@@ -50,12 +49,11 @@ returns-then-month-from c =
     let if5 = c.if-month-from in
     let if6 = c.if-is_first in
     let is_first = c.is_first in
-    let month = wide.ensures ∙ latest_month.ensures in
-    (sym (same_month args.from args.expiry pre if2.false month if5.true false (sym if6.false ∙ is_first.ensures)), omega arith)
+    let month = c.from-month.ensures ∙ (latest_month.ensures ∙ ap month_of c.from.ensures) in
+    (sym (same_month args.from args.expiry pre if2.false month if5.true false (sym if6.false ∙ (is_first.ensures ∙ ap starts_month c.from-then-month-from.ensures))), omega arith)
 
 pub returns : goal.returns
 returns c =
-    let wide = c.wide-month in
     let latest_month = c.latest_month in
     let misfit = c.misfit in
     let if1 = c.if-from-ge-LAST_MONTH in
@@ -63,5 +61,5 @@ returns c =
     let pre = c.requires in
     let if2 = c.if-expiry-le-FIRST_DAY in
     let if5 = c.if-month-from in
-    let month = wide.ensures ∙ latest_month.ensures in
+    let month = c.from-month.ensures ∙ (latest_month.ensures ∙ ap month_of c.from.ensures) in
     (misfit.ensures.0 (omega (arith, if1.false)) ∙ sym (other_month args.from args.expiry pre if2.false month if5.false), misfit.ensures.1)
