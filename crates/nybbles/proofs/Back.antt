@@ -22,9 +22,9 @@ use Rattle.nybbles.proofs.Sound.{accepted_first}
 use Rattle.nybbles.specs.declared.code.Mark.{Mark}
 use Rattle.nybbles.specs.declared.code.Mark.TheVariants.{Leaps, Expires}
 use Rattle.nybbles.specs.declared.code.Code.{Code}
-use Rattle.nybbles.specs.Codes.{nybbles, np_expiry, mark_of, in_sixes, np_positive, codes_of}
+use Rattle.nybbles.specs.Codes.{nybbles, np_expiry, mark_of, in_sixes, np_positive, codes_of, np_of}
 use Rattle.nybbles.specs.Read.{State, fault, after, read_codes, read_nybbles}
-use Rattle.nybbles.specs.Write.{np_of, codes_from, plain_codes, is_single, any_single, padded, evened, spelling, nybbles_of}
+use Rattle.nybbles.specs.Write.{codes_from, plain_codes, is_single, any_single, padded, evened, spelling, nybbles_of}
 use Rattle.nybbles.proofs.Plain.{plain, read_plain, plain_read}
 use Rattle.nybbles.proofs.Filled.{np_small}
 use Rattle.nybbles.proofs.Division.{read_as, divided, spelling_all, no_nybble_lost}

@@ -11,8 +11,8 @@ use borrow.Author.Tests.{ltb-false, leb-true, eqb-true, eqb-false}
 use Rattle.schedule.specs.Schedule.{Leap, Schedule, expiry_month}
 use Rattle.schedule.proofs.Cases.{by_bool, by_cond}
 use Rattle.nybbles.specs.declared.code.Code.{Code}
-use Rattle.nybbles.specs.Codes.{nybbles, single, wide, codes_of, np_positive, np_expiry}
-use Rattle.nybbles.specs.Write.{np_of, sixes_code, sixes_in, sixes, gap_codes, codes_from, plain_codes, is_single, any_single, padded, evened, pack, spelling, nybbles_of}
+use Rattle.nybbles.specs.Codes.{nybbles, single, wide, codes_of, np_positive, np_expiry, np_of}
+use Rattle.nybbles.specs.Write.{sixes_code, sixes_in, sixes, gap_codes, codes_from, plain_codes, is_single, any_single, padded, evened, pack, spelling, nybbles_of}
 use Rattle.nybbles.proofs.Codes.{All, none, more, codes_single, codes_wide}
 use Rattle.nybbles.proofs.Filled.{np_small}
 

@@ -5,7 +5,6 @@ pub mod Places
 pub mod Plain
 pub mod Sound
 pub mod Early
-mod Held
 pub mod Stored
 mod Filled
 mod Evened

@@ -5,16 +5,16 @@ use mathlib.Core.List.{List, [], ◌∷◌, ◌++◌, map, flatten}
 use Prim.Native.Nat.{ℕ, zero, suc, ◌+◌, ◌*◌, ◌/◌, ◌%◌, ◌≤◌, ◌<◌}
 use native.Mathlib.Numerals.{add-one}
 use native.Mathlib.Omega.{arith}
-use lib.ListN.{length, get_or, take, drop, set}
-use lib.Seq.{sets, length-sets, get_or-set_other, set-get_or}
+use lib.ListN.{length, get_or, drop, set, length-append, drop_of_length-le}
+use lib.Seq.{sets, length-sets, drop-cons, get_or-set_other, set-get_or}
 use Rattle.schedule.specs.Schedule.{Schedule}
 use Rattle.nybbles.specs.Codes.{nybbles}
 use Rattle.nybbles.specs.Write.{pack, spelling, nybbles_of}
-use Rattle.nybbles.specs.Private.{code_of, Holds}
+use Rattle.nybbles.specs.declared.written.WrittenCode.{WrittenCode}
+use Rattle.nybbles.specs.declared.written.WrittenCode.TheVariants.{Single, Pair}
+use Rattle.nybbles.specs.Private.{code_of, AreNybbles}
 use Rattle.schedule.proofs.Stores.{sets_append}
-use Rattle.nybbles.proofs.Held.{held_one, held_two, held_few}
 use Rattle.nybbles.proofs.Codes.{All, more, count, upper, lower}
-use Rattle.nybbles.proofs.Evened.{flat_next, flat_length, flat_end}
 use Rattle.nybbles.proofs.Division.{IsNybble, spelling_all, flat_all, spelling_even, nybble_count}
 
 -- a whole byte put, which is its two nybbles put
@@ -60,80 +60,85 @@ packed (b ∷ bs) =
     let x : b / 16 * 16 + b % 16 ≡ b = omega arith in
     rw (x, packed bs)
 
--- a code of one nybble, and one of two
-module _ (at c : ℕ) where
-  pub one_size : c < 16 → at + 1 ≡ at + length (code_of c)
-  one_size h = rw (held_one c h)
-
-  pub two_size : 16 ≤ c → at + 2 ≡ at + length (code_of c)
-  two_size h = rw (held_two c h)
-
-  module _ (ns : List ℕ) where
-    pub one_put : c < 16 → set ns at c ≡ sets ns at (code_of c)
-    one_put h = rw (held_one c h)
-
-    pub two_put : 16 ≤ c → set (set ns at (c / 16)) (at + 1) (c % 16) ≡ sets ns at (code_of c)
-    two_put h = rw (held_two c h, add-one)
-
 -- what holds in the loop of `put_codes`: the nybbles left, put from here on, make the whole
-pub record Puts (codes : List ℕ) (n : ℕ) (out₀ out : List ℕ) (at i : ℕ) : Type 0 where
-  pub inside : i ≤ n
+pub record Puts (codes : List WrittenCode) (out₀ out : List ℕ) (at i : ℕ) : Type 0 where
   pub few : at ≤ 2 * i
   pub same : length (nybbles out) ≡ length (nybbles out₀)
-  pub count : at + length (flatten (drop i (take n (map code_of codes)))) ≡ length (flatten (take n (map code_of codes)))
-  pub stored : sets (nybbles out) at (flatten (drop i (take n (map code_of codes)))) ≡ sets (nybbles out₀) 0 (flatten (take n (map code_of codes)))
+  pub low : AreNybbles (flatten (map code_of (drop i codes)))
+  pub count : at + length (flatten (map code_of (drop i codes))) ≡ length (flatten (map code_of codes))
+  pub stored : sets (nybbles out) at (flatten (map code_of (drop i codes))) ≡ sets (nybbles out₀) 0 (flatten (map code_of codes))
 
-pub puts_start : (codes : List ℕ) (n : ℕ) (out : List ℕ) → Puts codes n out out 0 0
-puts_start codes n out = record { inside = omega arith; few = omega arith; same = refl; count = omega arith; stored = refl }
+pub puts_start : (codes : List WrittenCode) (out : List ℕ) → AreNybbles (flatten (map code_of codes)) → Puts codes out out 0 0
+puts_start codes out l = record { few = omega arith; same = refl; low = l; count = omega arith; stored = refl }
 
 -- an output keeps its length
-pub puts_same : (codes : List ℕ) (n : ℕ) (out₀ out : List ℕ) (at i : ℕ) → Puts codes n out₀ out at i → length out ≡ length out₀
-puts_same codes n out₀ out at i s = omega (arith, s.same, count out, count out₀)
+pub puts_same : (codes : List WrittenCode) (out₀ out : List ℕ) (at i : ℕ) → Puts codes out₀ out at i → length out ≡ length out₀
+puts_same codes out₀ out at i s = omega (arith, s.same, count out, count out₀)
 
-module _ (codes : List ℕ) (n : ℕ) (out₀ out : List ℕ) (at i : ℕ) (full : n ≤ length codes) (s : Puts codes n out₀ out at i) where
-  module _ (h : i < n) where
-    abbrev c : ℕ
-    c = get_or codes i 0
+first_low : (c ns : List ℕ) → AreNybbles (c ++ ns) → AreNybbles c
+first_low [] ns l = tt
+first_low (n ∷ c) ns l = (l.0, first_low c ns l.1)
+
+later_low : (c ns : List ℕ) → AreNybbles (c ++ ns) → AreNybbles ns
+later_low [] ns l = l
+later_low (n ∷ c) ns l = later_low c ns l.1
+
+held_few : (c : WrittenCode) → length (code_of c) ≤ 2
+held_few (Single v) = omega arith
+held_few (Pair n g) = omega arith
+
+module _ (codes : List WrittenCode) (out₀ out : List ℕ) (at i : ℕ) (s : Puts codes out₀ out at i) where
+  module _ (h : i < length codes) (d : WrittenCode) where
+    abbrev c : List ℕ
+    c = code_of (get_or codes i d)
 
     abbrev rest : List ℕ
-    rest = flatten (drop (i + 1) (take n (map code_of codes)))
+    rest = flatten (map code_of (drop (i + 1) codes))
 
-    next : flatten (drop i (take n (map code_of codes))) ≡ code_of c ++ rest
-    next = flat_next codes n i full h
+    next : flatten (map code_of (drop i codes)) ≡ c ++ rest
+    unfolding flatten
+    next = rw (add-one, drop-cons codes i d h)
 
-    next_length : length (flatten (drop i (take n (map code_of codes)))) ≡ length (code_of c) + length rest
-    next_length = flat_length codes n i full h
+    next_length : length (flatten (map code_of (drop i codes))) ≡ length c + length rest
+    next_length = ap length next ∙ length-append c rest
 
-    pub puts_room : length (flatten (take n (map code_of codes))) ≤ length (nybbles out₀) → at + length (code_of c) ≤ length (nybbles out)
+    pub puts_low : AreNybbles c
+    puts_low = first_low c rest (rw next at s.low)
+
+    pub puts_room : length (flatten (map code_of codes)) ≤ length (nybbles out₀) → at + length c ≤ length (nybbles out)
     puts_room l = omega (arith, s.count, s.same, next_length)
 
-    pub puts_step : (exit : List ℕ) (r : ℕ) → r ≡ at + length (code_of c) → nybbles exit ≡ sets (nybbles out) at (code_of c) → Puts codes n out₀ exit r (i + 1)
+    pub puts_step : (exit : List ℕ) (r : ℕ) → r ≡ at + length c → nybbles exit ≡ sets (nybbles out) at c → Puts codes out₀ exit r (i + 1)
     puts_step exit r p q = record {
-      inside = omega arith;
-      few = omega (arith, s.few, held_few c);
-      same = ap length q ∙ (length-sets (nybbles out) at (code_of c) ∙ s.same);
+      few = omega (arith, s.few, held_few (get_or codes i d));
+      same = ap length q ∙ (length-sets (nybbles out) at c ∙ s.same);
+      low = later_low c rest (rw next at s.low);
       count = omega (arith, s.count, next_length);
-      stored = rw (p, q) (sym (sets_append (code_of c) (nybbles out) at rest) ∙ (ap (sets (nybbles out) at) (sym next) ∙ s.stored));
+      stored = rw (p, q) (sym (sets_append c (nybbles out) at rest) ∙ (ap (sets (nybbles out) at) (sym next) ∙ s.stored));
     }
 
-  pub puts_end : n ≤ i → nybbles out ≡ sets (nybbles out₀) 0 (flatten (take n (map code_of codes)))
-  puts_end h = ap (sets (nybbles out) at) (sym (flat_end codes n i full h)) ∙ s.stored
+  pub puts_end : length codes ≤ i → nybbles out ≡ sets (nybbles out₀) 0 (flatten (map code_of codes))
+  unfolding flatten
+  puts_end h = let e : drop i codes ≡ [] = drop_of_length-le codes h in rw e at s.stored
 
 -- the list of a schedule
-module _ (s : Schedule) (codes : List ℕ) (n : ℕ) (h : Holds codes n (spelling s)) where
-  flat_held : flatten (take n (map code_of codes)) ≡ flatten (spelling s)
-  flat_held = ap flatten h.held
+module _ (s : Schedule) (m : ℕ) (e : m ≡ length (flatten (spelling s))) where
+  pub bytes_counted : m / 2 ≡ length (nybbles_of s)
+  bytes_counted = omega (arith, nybble_count s)
 
-  module _ (m : ℕ) (e : m ≡ length (flatten (take n (map code_of codes)))) where
-    pub bytes_counted : m / 2 ≡ length (nybbles_of s)
-    bytes_counted = omega (arith, nybble_count s, ap length flat_held)
+  pub bytes_fit : (out : List ℕ) → m / 2 ≤ length out → length (flatten (spelling s)) ≤ length (nybbles out)
+  bytes_fit out l = omega (arith, nybble_count s, count out)
 
-    pub bytes_fit : (out : List ℕ) → m / 2 ≤ length out → length (flatten (take n (map code_of codes))) ≤ length (nybbles out)
-    bytes_fit out l = omega (arith, nybble_count s, ap length flat_held, count out)
+all_low : (ns : List ℕ) → All IsNybble ns → AreNybbles ns
+all_low [] a = tt
+all_low (n ∷ ns) (more h a) = (h, all_low ns a)
 
-  pub bytes_put : (out exit : List ℕ) → nybbles exit ≡ sets (nybbles out) 0 (flatten (take n (map code_of codes))) → exit ≡ sets out 0 (nybbles_of s)
-  unfolding nybbles_of
-  bytes_put out exit e =
-      let ns = flatten (spelling s) in
-      let target = put_pack ns out 0 0 refl (spelling_even s) (flat_all (spelling s) (spelling_all s)) in
-      sym (packed exit) ∙ (ap pack (e ∙ (ap (sets (nybbles out) 0) flat_held ∙ sym target)) ∙ packed (sets out 0 (pack ns)))
+pub bytes_low : (s : Schedule) → AreNybbles (flatten (spelling s))
+bytes_low s = all_low _ (flat_all (spelling s) (spelling_all s))
+
+pub bytes_put : (s : Schedule) (out exit : List ℕ) → nybbles exit ≡ sets (nybbles out) 0 (flatten (spelling s)) → exit ≡ sets out 0 (nybbles_of s)
+unfolding nybbles_of
+bytes_put s out exit e =
+    let ns = flatten (spelling s) in
+    let target = put_pack ns out 0 0 refl (spelling_even s) (flat_all (spelling s) (spelling_all s)) in
+    sym (packed exit) ∙ (ap pack (e ∙ sym target) ∙ packed (sets out 0 (pack ns)))

@@ -1,12 +1,14 @@
 -- Where a reading that ends early stops, and that refusal 2 is not given.
 -- Assumes nothing.
-use mathlib.Core.Path.{◌≡◌}
+use mathlib.Core.Path.{◌≡◌, refl}
+use mathlib.Core.Bool.{Bool, true, false}
 use mathlib.Core.List.{List, [], ◌∷◌}
 use Prim.Native.Nat.{ℕ, ◌+◌, ◌<◌}
 use native.Mathlib.Omega.{arith}
 use lib.Dec.{ltb, leb, eqb}
 use lib.ListN.{length}
 use borrow.Author.Tests.{eqb-false}
+use Rattle.refusals.specs.Answer.{Answer, refused, number, require}
 use Rattle.refusals.specs.Refusals.{ends_early, not_allowed}
 use Rattle.schedule.specs.Answers.{Reading, refusal}
 use Rattle.schedule.proofs.Cases.{by_cond}
@@ -24,14 +26,17 @@ record Answers (k : ℕ) (r : Reading) : Type 0 where
 other : (k n p : ℕ) → 2 < n → Answers k (refusal n p)
 other k n p h = record { early = λ e. absurd (omega arith); two = λ e. omega arith }
 
+required : (P : Answer (Unit {0}) → Type 0) (b : Bool) {n : ℕ} {a : Answer (Unit {0})} → P (refused n) → P a → P (require b n a)
+required P true r a = a
+required P false r a = r
+
 fault_other : (st : State) (c : Code) → (fault st c ≡ 0 → ⊥) → 2 < fault st c
 unfolding fault
 fault_other st c =
-    by_cond (λ (n : ℕ). (n ≡ 0 → ⊥) → 2 < n) (leb (st.gap + c.months) 999)
-    (λ a. by_cond (λ (n : ℕ). (n ≡ 0 → ⊥) → 2 < n) (leb (st.total + c.months) 2400)
-    (λ b. by_cond (λ (n : ℕ). (n ≡ 0 → ⊥) → 2 < n) (has_room c.mark (length st.schedule.leaps)) (λ d z. absurd (omega arith)) (λ d z. omega arith))
-    (λ b z. omega arith))
-    (λ a z. omega arith)
+    let Other : Answer (Unit {0}) → Type 0 = λ a. (number a ≡ 0 → ⊥) → 2 < number a in
+    required Other (leb (st.gap + c.months) 999) (λ z. omega arith)
+    (required Other (leb (st.total + c.months) 2400) (λ z. omega arith)
+    (required Other (has_room c.mark (length st.schedule.leaps)) (λ z. omega arith) (λ z. absurd (z refl))))
 
 answers : (cs : List Code) (k p : ℕ) (st : State) → k ≡ p + sizes cs → Answers k (read_codes k p st cs)
 unfolding read_codes sizes

@@ -13,9 +13,10 @@ use Rattle.schedule.proofs.Cases.{by_bool}
 use Rattle.schedule.proofs.Gaps.{fits_lt, parts}
 use Rattle.schedule.proofs.Rounded.{gaps_to, first_to, later_to, rounded_gaps}
 use Rattle.calendar.proofs.Laws.{start_lt, start_to, month_most, month_of_start}
-use Rattle.nybbles.specs.Write.{np_of, sixes_in, sixes, gap_codes, codes_from, any_single, padded, evened, plain_codes, spelling, nybbles_of}
+use Rattle.nybbles.specs.Codes.{np_of}
+use Rattle.nybbles.specs.Write.{sixes_in, sixes, gap_codes, codes_from, any_single, padded, evened, plain_codes, spelling, nybbles_of}
 use Rattle.nybbles.proofs.Codes.{All, more}
-use Rattle.nybbles.proofs.Stored.{list_short, sixes_length, gap_sixes, gap_months, years_length}
+use Rattle.nybbles.proofs.Stored.{list_short, list_few}
 use Rattle.nybbles.proofs.Division.{IsCode, short, long, spelling_all, length_pack, nybble_count}
 
 -- a code has at most two nybbles, and evening adds none
@@ -43,28 +44,6 @@ at_most s w g =
     let b = evened_length (plain_codes s) in
     let c = flat_short (spelling s) (spelling_all s) in
     omega (arith, nybble_count s)
-
--- the codes of a gap: one, and one more for each 16 months at most
-gap_few : (np gap : ℕ) → 0 < gap → 16 * length (gap_codes np gap) ≤ 15 + gap
-gap_few np gap some =
-    by_bool (eqb (gap % 6) 0)
-    (λ a. let z = eqb-true (gap % 6) 0 a in omega (arith, ap length (gap_sixes np gap z), sixes_length np (gap / 6) (omega arith)))
-    (λ a. let z = eqb-false (gap % 6) 0 a in
-    by_bool (leb gap 16)
-    (λ b. omega (arith, ap length (gap_months np gap z (leb-true _ _ b))))
-    (λ b. let l = leb-false gap 16 b in omega (arith, years_length np gap z l, sixes_length 0 (gap / 12 * 2) (omega arith))))
-
-list_few : (ls : List Leap) (from end : ℕ) → gaps_to from ls end ≡ true → from + 16 * length (codes_from from ls end) ≤ 15 * (length ls + 1) + end
-unfolding codes_from gaps_to
-list_few [] from end f =
-    let a : from < end = fits_lt from end f in
-    let b = gap_few 3 (end - from) (omega arith) in omega arith
-list_few (l ∷ ls) from end f =
-    let m = l.month in
-    let a : from < m = fits_lt from m (first_to from l ls end f) in
-    let b = gap_few (np_of l.sign) (m - from) (omega arith) in
-    let i = list_few ls m end (later_to from l ls end f) in
-    simp length-append (omega arith)
 
 -- so the nybble list of a well-formed schedule has at most 390 bytes
 pub at_most_390 : (s : Schedule) → well_formed s ≡ true → leaves_gap s ≡ true → length (nybbles_of s) ≤ 390

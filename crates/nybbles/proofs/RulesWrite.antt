@@ -7,7 +7,8 @@ use borrow.Author.Tests.{lt-leb, eqb-false}
 use Rattle.schedule.specs.declared.Sign.TheVariants.{Positive, Negative}
 use Rattle.schedule.specs.Schedule.{Leap, Schedule, month_start, expiry_month, leaves_gap, well_formed}
 use Rattle.schedule.proofs.Cases.{by_bool}
-use Rattle.nybbles.specs.Write.{np_of, sixes_code, sixteen, sixes, gap_codes, codes_from, is_single, any_single, padded, evened, plain_codes, spelling, pack, nybbles_of}
+use Rattle.nybbles.specs.Codes.{np_of}
+use Rattle.nybbles.specs.Write.{sixes_code, sixteen, sixes, gap_codes, codes_from, is_single, any_single, padded, evened, plain_codes, spelling, pack, nybbles_of}
 use Rattle.nybbles.proofs.Stored.{sixes_more, sixes_last, gap_sixes, gap_months, gap_years}
 use Rattle.calendar.specs.Calendar.{first_day, end_day, InMonth}
 use Rattle.calendar.proofs.Laws.{start_zero, start_last, same_month, first_in, in_month, late_month}

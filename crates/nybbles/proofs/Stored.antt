@@ -2,23 +2,19 @@
 -- Assumes nothing.
 use mathlib.Core.Path.{◌≡◌, refl, sym, ap, ◌∙◌}
 use mathlib.Core.Bool.{true}
-use mathlib.Core.List.{List, [], ◌∷◌, map}
+use mathlib.Core.List.{List, [], ◌∷◌, ◌++◌, append_assoc}
 use Prim.Native.Nat.{ℕ, zero, suc, ◌+◌, ◌*◌, ◌-◌, ◌/◌, ◌%◌, ◌≤◌, ◌<◌}
 use native.Mathlib.Numerals.{add-one}
 use native.Mathlib.Omega.{arith}
 use lib.Dec.{ltb, leb, eqb}
-use lib.ListN.{length, set, length-append}
-use lib.Seq.{sets}
+use lib.ListN.{length, length-append}
 use borrow.Author.Tests.{ltb-true, ltb-false, lt-ltb, le-ltb, leb-true, leb-false, le-leb, lt-leb, eqb-true, eqb-false, eq-eqb, ne_eqb}
 use Rattle.schedule.specs.Schedule.{Leap}
 use Rattle.schedule.proofs.Cases.{by_bool}
 use Rattle.schedule.proofs.Gaps.{fits_lt}
 use Rattle.schedule.proofs.Rounded.{gaps_to, first_to, later_to}
-use Rattle.nybbles.specs.Codes.{np_none}
-use Rattle.nybbles.specs.Write.{np_of, months_code, sixes_code, sixteen, sixes_in, sixes, years, gap_codes, codes_from}
-use Rattle.nybbles.specs.Private.{code_of, Stores}
-use Rattle.schedule.proofs.Stores.{sets_append}
-use Rattle.nybbles.proofs.Held.{held_set}
+use Rattle.nybbles.specs.Codes.{np_none, np_of}
+use Rattle.nybbles.specs.Write.{months_code, sixes_code, sixteen, sixes_in, sixes, years, gap_codes, codes_from}
 
 -- as many codes as there are sixes are enough, and more change nothing
 enough : (most other np k : ℕ) → 0 < k → k ≤ most → k ≤ other → sixes_in most np k ≡ sixes_in other np k
@@ -55,30 +51,20 @@ pub sixes_length : (np k : ℕ) → 0 < k → length (sixes np k) ≡ (k - 1) / 
 unfolding sixes
 sixes_length np k s = sixes_in_length k np k s (omega arith)
 
--- what holds in the loop of `put_sixes`: the sixes left, stored from here on, make the whole
-pub record Sixes (codes₀ codes : List ℕ) (at n np k left : ℕ) : Type 0 where
+-- what holds in the loop of `push_sixes`: the sixes left, after the codes so far, make the whole
+pub record Sixes (before codes : List (List ℕ)) (np k left : ℕ) : Type 0 where
   pub some : 0 < left
-  pub count : n + length (sixes np left) ≡ at + length (sixes np k)
-  pub stored : sets (map code_of codes) n (sixes np left) ≡ sets (map code_of codes₀) at (sixes np k)
+  pub whole : codes ++ sixes np left ≡ before ++ sixes np k
 
-module _ (codes₀ codes : List ℕ) (at n np k left : ℕ) (s : Sixes codes₀ codes at n np k left) where
-  pub sixes_inside : at + length (sixes np k) ≤ 2400 → n < 2400
-  sixes_inside h = omega (arith, s.count, sixes_length np left s.some)
+module _ (before codes : List (List ℕ)) (np k left : ℕ) (s : Sixes before codes np k left) where
+  pub sixes_inside : length before + length (sixes np k) ≤ 390 → length codes < 390
+  sixes_inside h = omega (arith, simp length-append at (ap length s.whole), sixes_length np left s.some)
 
-  pub sixes_step : 16 < left → Sixes codes₀ (set codes n 0x8F) at (n + 1) np k (left - 16)
-  unfolding code_of
-  sixes_step h =
-      let e : sixes np left ≡ sixteen ∷ sixes np (left - 16) = sixes_more np left h in
-      record {
-        some = omega arith;
-        count = omega (arith, s.count, ap length e);
-        stored = rw (add-one, held_set codes n 0x8F) (ap (sets (map code_of codes) n) (sym e) ∙ s.stored);
-      }
+  pub sixes_step : 16 < left → Sixes before (codes ++ (sixteen ∷ [])) np k (left - 16)
+  sixes_step h = record { some = omega arith; whole = rw append_assoc (ap (λ (cs : List (List ℕ)). codes ++ cs) (sym (sixes_more np left h)) ∙ s.whole) }
 
-  pub sixes_end : left ≤ 16 → (c : ℕ) → code_of c ≡ sixes_code np left → Stores codes₀ (set codes n c) at (n + 1) (sixes np k)
-  sixes_end h c q =
-      let e : sixes np left ≡ sixes_code np left ∷ [] = sixes_last np left s.some h in
-      record { count = omega (arith, s.count, ap length e); stored = held_set codes n c ∙ rw q (ap (sets (map code_of codes) n) (sym e) ∙ s.stored) }
+  pub sixes_end : left ≤ 16 → codes ++ (sixes_code np left ∷ []) ≡ before ++ sixes np k
+  sixes_end h = ap (λ (cs : List (List ℕ)). codes ++ cs) (sym (sixes_last np left s.some h)) ∙ s.whole
 
 -- the three kinds of gap
 pub gap_sixes : (np gap : ℕ) → gap % 6 ≡ 0 → gap_codes np gap ≡ sixes np (gap / 6)
@@ -90,23 +76,18 @@ module _ (np gap : ℕ) (h : gap % 6 ≡ 0 → ⊥) where
   unfolding gap_codes
   gap_months l = simp (ne_eqb _ _ h, le-leb gap 16 l)
 
-  pub months_stored : gap ≤ 16 → (at c : ℕ) (codes : List ℕ) → code_of c ≡ months_code np gap → Stores codes (set codes at c) at (at + 1) (gap_codes np gap)
-  months_stored l at c codes e = rw (gap_months l) (record { count = refl; stored = held_set codes at c ∙ rw e })
-
   module _ (l : 16 < gap) where
     pub gap_years : gap_codes np gap ≡ years np gap
     unfolding gap_codes
     gap_years = simp (ne_eqb _ _ h, lt-leb gap 16 l)
 
+    -- the codes of the years and the last one, put one after the other
+    pub years_put : (before years all : List (List ℕ)) → years ≡ before ++ sixes np_none (gap / 12 * 2) → all ≡ years ++ (months_code np (gap % 12) ∷ [])
+        → all ≡ before ++ gap_codes np gap
+    years_put before years all e f = f ∙ rw (e, gap_years) (append_assoc before _ _)
+
     pub years_length : length (gap_codes np gap) ≡ length (sixes np_none (gap / 12 * 2)) + 1
     years_length = ap length gap_years ∙ simp length-append
-
-    pub years_stored : (at next c : ℕ) (codes₀ codes : List ℕ) → Stores codes₀ codes at next (sixes np_none (gap / 12 * 2)) → code_of c ≡ months_code np (gap % 12)
-        → Stores codes₀ (set codes next c) at (next + 1) (gap_codes np gap)
-    years_stored at next c codes₀ codes s e = record {
-      count = omega (arith, years_length, s.count);
-      stored = held_set codes next c ∙ rw (gap_years, s.count, s.stored, e) (sym (sets_append (sixes np_none (gap / 12 * 2)) (map code_of codes₀) at _));
-    }
 
 -- no gap has more codes than months
 gap_short : (np gap : ℕ) → 0 < gap → length (gap_codes np gap) ≤ gap
@@ -129,4 +110,26 @@ list_short (l ∷ ls) from expiry f =
     let a : from < m = fits_lt from m (first_to from l ls expiry f) in
     let b = gap_short (np_of l.sign) (m - from) (omega arith) in
     let i = list_short ls m expiry (later_to from l ls expiry f) in
+    simp length-append (omega arith)
+
+-- the codes of a gap: one, and one more for each 16 months at most
+gap_few : (np gap : ℕ) → 0 < gap → 16 * length (gap_codes np gap) ≤ 15 + gap
+gap_few np gap some =
+    by_bool (eqb (gap % 6) 0)
+    (λ a. let z = eqb-true (gap % 6) 0 a in omega (arith, ap length (gap_sixes np gap z), sixes_length np (gap / 6) (omega arith)))
+    (λ a. let z = eqb-false (gap % 6) 0 a in
+    by_bool (leb gap 16)
+    (λ b. omega (arith, ap length (gap_months np gap z (leb-true _ _ b))))
+    (λ b. let l = leb-false gap 16 b in omega (arith, years_length np gap z l, sixes_length 0 (gap / 12 * 2) (omega arith))))
+
+pub list_few : (ls : List Leap) (from end : ℕ) → gaps_to from ls end ≡ true → from + 16 * length (codes_from from ls end) ≤ 15 * (length ls + 1) + end
+unfolding codes_from gaps_to
+list_few [] from end f =
+    let a : from < end = fits_lt from end f in
+    let b = gap_few 3 (end - from) (omega arith) in omega arith
+list_few (l ∷ ls) from end f =
+    let m = l.month in
+    let a : from < m = fits_lt from m (first_to from l ls end f) in
+    let b = gap_few (np_of l.sign) (m - from) (omega arith) in
+    let i = list_few ls m end (later_to from l ls end f) in
     simp length-append (omega arith)

@@ -1,9 +1,12 @@
 -- "The nybble list": the nybbles of a list, their division into codes, and what each code says.
 -- Assumes nothing: these are definitions.
 use Rattle.std.specs.Prelude.{ℕ, ◌+◌, ◌*◌, ◌/◌, ◌%◌, cond, List, [], ◌∷◌, ltb, eqb}
+use Rattle.schedule.specs.declared.Sign.{Sign}
 use Rattle.schedule.specs.declared.Sign.TheVariants.{Positive, Negative}
 use Rattle.nybbles.specs.declared.code.Mark.{Mark}
 use Rattle.nybbles.specs.declared.code.Mark.TheVariants.{Continues, Leaps, Expires}
+use Rattle.nybbles.specs.declared.code.Unit.{Unit}
+use Rattle.nybbles.specs.declared.code.Unit.TheVariants.{Sixes, Months}
 use Rattle.nybbles.specs.declared.code.Code.{Code}
 
 -- the nybbles of a list: the upper half of each byte first
@@ -34,6 +37,17 @@ mark_of np =
     (cond (eqb np np_negative) (Leaps Negative)
     (cond (eqb np np_expiry) Expires Continues))
 
+-- NP of a sign
+abbrev pub np_of : Sign → ℕ
+np_of Positive = np_positive
+np_of Negative = np_negative
+
+-- NP of a mark
+abbrev pub np_of_mark : Mark → ℕ
+np_of_mark Continues = np_none
+np_of_mark (Leaps sign) = np_of sign
+np_of_mark Expires = np_expiry
+
 -- M of a nybble 1MNP
 abbrev pub bit_m : ℕ → ℕ
 bit_m n = n / 4 % 2
@@ -49,6 +63,11 @@ in_sixes = 0
 -- M 1 counts months
 abbrev pub in_months : ℕ
 in_months = 1
+
+-- M of what the months are counted in
+abbrev pub bit_of : Unit → ℕ
+bit_of Sixes = in_sixes
+bit_of Months = in_months
 
 -- the months of M and G: (G + 1) if M is 1, 6 x (G + 1) if M is 0
 abbrev pub months_of : ℕ → ℕ → ℕ

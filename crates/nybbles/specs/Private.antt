@@ -1,10 +1,11 @@
 -- What only private functions are held to; no public contract or promise speaks of it.
 -- Assumes nothing: these are definitions.
-use Rattle.std.specs.Prelude.{ℕ, ◌+◌, ◌*◌, ◌/◌, ◌%◌, ◌≤◌, ◌<◌, ◌≡◌, true, cond, List, [], ◌∷◌, map, ltb, length, take, drop}
-use Rattle.std.proofs.lemmas.List.Edits.{sets}
+use Rattle.std.specs.Prelude.{ℕ, ◌+◌, ◌*◌, ◌≤◌, ◌<◌, ◌≡◌, true, List, [], ◌∷◌, length, drop}
 use Rattle.schedule.specs.Schedule.{Schedule, max_gap, last_month}
 use Rattle.schedule.specs.Private.{SoFar}
 use Rattle.nybbles.specs.declared.code.Code.{Code}
+use Rattle.nybbles.specs.declared.written.WrittenCode.{WrittenCode}
+use Rattle.nybbles.specs.declared.written.WrittenCode.TheVariants.{Single, Pair}
 use Rattle.nybbles.specs.declared.progress.Progress.{Progress}
 use Rattle.nybbles.specs.Codes.{nybbles, codes_of}
 use Rattle.nybbles.specs.Read.{State, has_room, after}
@@ -39,21 +40,16 @@ pub record Next (bytes : List ℕ) (at : ℕ) (c : Code) : Type 0 where
   pub two : c.size ≤ 2
   pub inside : at + c.size ≤ length (nybbles bytes)
 
--- the room for written codes: each has a month at least, so there are no more of them than months
+-- the room for written codes (`list_few`)
 abbrev pub max_codes : ℕ
-max_codes = last_month
+max_codes = 390
 
--- the nybbles of a written code that is held as a number: below 16 a single nybble, else the two that a byte has
-unfoldable pub code_of : ℕ → List ℕ
-code_of b = cond (ltb b 16) (b ∷ []) ((b / 16) ∷ (b % 16) ∷ [])
+-- the nybbles of a written code
+abbrev pub code_of : WrittenCode → List ℕ
+code_of (Single v) = v ∷ []
+code_of (Pair n g) = n ∷ g ∷ []
 
--- codes stored from a place on, where `next` is the place after them
-pub record Stores (codes codes' : List ℕ) (at next : ℕ) (cs : List (List ℕ)) : Type 0 where
-  pub count : next ≡ at + length cs
-  pub stored : map code_of codes' ≡ sets (map code_of codes) at cs
-
--- the room for written codes holds n of them
-pub record Holds (codes : List ℕ) (n : ℕ) (cs : List (List ℕ)) : Type 0 where
-  pub few : n ≤ max_codes
-  pub full : length codes ≡ max_codes
-  pub held : take n (map code_of codes) ≡ cs
+-- nybbles are below 16
+abbrev pub AreNybbles : List ℕ → Type 0
+AreNybbles [] = Unit {0}
+AreNybbles (n ∷ ns) = (n < 16) × AreNybbles ns

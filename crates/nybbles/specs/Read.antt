@@ -1,6 +1,7 @@
 -- "The nybble list": what reading a list answers, code by code.
 -- Assumes nothing: these are definitions.
 use Rattle.std.specs.Prelude.{ℕ, ◌+◌, Bool, true, false, cond, List, [], ◌∷◌, ltb, leb, eqb, length}
+use Rattle.refusals.specs.Answer.{Answer, given, require, number}
 use Rattle.refusals.specs.Refusals.{ends_early, bad_gap, past_last_month, too_many_leaps, after_end}
 use Rattle.schedule.specs.Schedule.{Schedule, max_leaps, max_gap, last_month, month_start, blank_schedule}
 use Rattle.schedule.specs.Answers.{Reading, refusal, accepted, with_leap}
@@ -27,16 +28,16 @@ has_room Continues count = true
 has_room (Leaps sign) count = ltb count max_leaps
 has_room Expires count = true
 
--- a check, the refusal where it fails, and what follows where it passes
-abbrev pub require : Bool → ℕ → ℕ → ℕ
-require passes number next = cond passes next number
-
--- the checks at each code, in this order: gap so far over 999, total over 2400, a leap after 256; 0 where all pass
-unfoldable pub fault : State → Code → ℕ
-fault st c =
+-- the checks at each code, in this order: gap so far over 999, total over 2400, a leap after 256
+abbrev pub checks : State → Code → Answer (Unit {0})
+checks st c =
     require (leb (st.gap + c.months) max_gap) bad_gap
     (require (leb (st.total + c.months) last_month) past_last_month
-    (require (has_room c.mark (length st.schedule.leaps)) too_many_leaps 0))
+    (require (has_room c.mark (length st.schedule.leaps)) too_many_leaps (given tt)))
+
+-- the number with which a code is refused; 0 where it passes
+unfoldable pub fault : State → Code → ℕ
+fault st c = number (checks st c)
 
 -- what a mark at a month makes of the state: a leap ends the gap so far
 abbrev pub marked : Mark → ℕ → ℕ → Schedule → State

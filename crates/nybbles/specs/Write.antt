@@ -2,15 +2,8 @@
 -- Assumes nothing: these are definitions.
 use Rattle.std.specs.Prelude.{ℕ, zero, suc, ◌+◌, ◌*◌, ◌-◌, ◌/◌, ◌%◌, Bool, false, ◌&&◌, ◌||◌, cond, ltb, leb, eqb, length}
 use mathlib.Core.List.{List, [], ◌∷◌, ◌++◌, flatten}
-use Rattle.schedule.specs.declared.Sign.{Sign}
-use Rattle.schedule.specs.declared.Sign.TheVariants.{Positive, Negative}
 use Rattle.schedule.specs.Schedule.{Leap, Schedule, expiry_month}
-use Rattle.nybbles.specs.Codes.{np_none, np_positive, np_negative, np_expiry, in_sixes, in_months}
-
--- NP of a leap
-abbrev pub np_of : Sign → ℕ
-np_of Positive = np_positive
-np_of Negative = np_negative
+use Rattle.nybbles.specs.Codes.{np_none, np_positive, np_expiry, np_of, in_sixes, in_months}
 
 -- 1MNP and its G
 abbrev pub pair : ℕ → ℕ → ℕ → List ℕ

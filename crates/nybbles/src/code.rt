@@ -1,28 +1,17 @@
 // The codes of a nybble list: what a nybble says, alone or with the next one. M, N, P and G are bits of a code, as in 1MNP and G.
 ghost use Rattle.std.specs.Prelude.{◌≡◌, ◌*◌, ◌≤◌, ◌<◌, length, get_or};
 ghost use Rattle.schedule.specs.Schedule.{last_month};
-ghost use Rattle.nybbles.specs.Codes.{nybbles, mark_of, single, wide};
+ghost use Rattle.nybbles.specs.Codes.{nybbles, mark_of, np_of_mark, single, wide};
 ghost use Rattle.nybbles.specs.Private.{Next};
 
 use schedule::Sign;
 
-// NP 00 is no leap: the gap continues.
-pub(crate) const NP_NONE: u8 = 0;
-
-// NP 01 is a positive leap.
-pub(crate) const NP_POSITIVE: u8 = 1;
-
-// NP 10 is a negative leap.
-pub(crate) const NP_NEGATIVE: u8 = 2;
-
-// NP 11 is the expiry.
-pub(crate) const NP_EXPIRY: u8 = 3;
-
-// M 0 counts sixes of months.
-pub(crate) const IN_SIXES: u8 = 0;
-
-// M 1 counts months.
-pub(crate) const IN_MONTHS: u8 = 1;
+// What M says that the months of a code are counted in.
+#[derive(Clone, Copy)]
+pub(crate) enum Unit {
+    Sixes = 0,
+    Months = 1,
+}
 
 // G of a nybble 1MNP that is the last.
 const LAST_G: u8 = 4;
@@ -35,6 +24,32 @@ pub(crate) enum Mark {
     Expires,
 }
 
+impl Mark {
+    // The bits NP of a mark.
+    pub(crate) fn np(self) -> u8
+        ensures { result ≡ np_of_mark self }
+    {
+        match self {
+            Mark::Continues => 0b00,
+            Mark::Leaps(Sign::Positive) => 0b01,
+            Mark::Leaps(Sign::Negative) => 0b10,
+            Mark::Expires => 0b11,
+        }
+    }
+
+    // The mark of the bits NP.
+    fn of_np(np: u8) -> Mark
+        ensures { result ≡ mark_of np }
+    {
+        match np {
+            0b01 => Mark::Leaps(Sign::Positive),
+            0b10 => Mark::Leaps(Sign::Negative),
+            0b11 => Mark::Expires,
+            _ => Mark::Continues,
+        }
+    }
+}
+
 // A code: its months, its mark, and how many nybbles it has.
 #[derive(Clone, Copy)]
 pub(crate) struct Code {
@@ -43,49 +58,34 @@ pub(crate) struct Code {
     pub(crate) size: usize,
 }
 
-// The mark of NP.
-fn mark_of(np: u8) -> Mark
-    ensures { result ≡ mark_of np }
-{
-    if np == NP_POSITIVE {
-        Mark::Leaps(Sign::Positive)
-    } else if np == NP_NEGATIVE {
-        Mark::Leaps(Sign::Negative)
-    } else if np == NP_EXPIRY {
-        Mark::Expires
-    } else {
-        Mark::Continues
-    }
-}
-
 // The code of a nybble below 8.
+#[tactic(auto, unfolding(crate::specs::Codes::single))]
 fn single_code(v: u8) -> Code
     requires { v < 8 }
     ensures { result ≡ single v }
 {
     Code {
-        months: 6 * (v as u32 + 1),
+        months: 6 * (u32::from(v) + 1),
         mark: Mark::Leaps(Sign::Positive),
         size: 1,
     }
 }
 
 // The code of a nybble 1MNP with its G, which has that many nybbles.
+#[tactic(auto, unfolding(crate::specs::Codes::wide))]
 fn wide_code(n: u8, g: u8, size: usize) -> Code
     requires { g < 16 }
     ensures { result ≡ wide n g size }
 {
-    let mark = mark_of(n % 4);
-    if n / 4 % 2 == IN_MONTHS {
-        return Code {
-            months: g as u32 + 1,
-            mark,
-            size,
-        };
-    }
+    let count = u32::from(g) + 1;
+    let months = if n / 4 % 2 == Unit::Months as u8 {
+        count
+    } else {
+        6 * count
+    };
     Code {
-        months: 6 * (g as u32 + 1),
-        mark,
+        months,
+        mark: Mark::of_np(n % 4),
         size,
     }
 }

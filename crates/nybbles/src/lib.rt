@@ -1,13 +1,17 @@
 // The nybble list: its reader and its writer.
 #![tactic(auto)]
 
+use crate::code::Mark;
 use crate::progress::Progress;
+use crate::spell::Spelling;
+use refusals::Refusal;
 use schedule::Writing;
 
 mod code; // code.rt: the codes of a list
 mod pack; // pack.rt: written codes as bytes
 mod progress; // progress.rt: what is read so far, and what a code makes of it
 mod spell; // spell.rt: the written codes of a list
+mod written; // written.rt: a written code
 
 ghost use Rattle.std.specs.Prelude.{◌≡◌, length};
 ghost use Rattle.schedule.specs.WordLayout.{meant};
@@ -29,16 +33,14 @@ pub fn read_nybbles(bytes: &[u8], out: &mut [u32; 514], place: &mut u64) -> u8
     let mut at: usize = 0;
     while at / 2 < bytes.len() {
         let c = code::code_at(bytes, at);
-        let number = progress::fault_of(p, c);
-        if number != 0 {
-            return schedule::hand_refusal(number, at, out, place);
+        if let Err(refusal) = p.check(c) {
+            return schedule::hand_refusal(refusal.number(), at, out, place);
         }
         at += c.size;
-        p = progress::after_code(p, c, out);
-        let mark = c.mark;
-        if progress::is_expiry(mark) {
+        p = p.after(c, out);
+        if matches!(c.mark, Mark::Expires) {
             if at / 2 < bytes.len() {
-                return schedule::hand_refusal(refusals::AFTER_END, at, out, place);
+                return schedule::hand_refusal(Refusal::AfterEnd.number(), at, out, place);
             }
             out[512] = p.count as u32;
             out[513] = schedule::expiry_at(p.total);
@@ -46,7 +48,7 @@ pub fn read_nybbles(bytes: &[u8], out: &mut [u32; 514], place: &mut u64) -> u8
             return 0;
         }
     }
-    schedule::hand_refusal(refusals::ENDS_EARLY, at, out, place)
+    schedule::hand_refusal(Refusal::EndsEarly.number(), at, out, place)
 }
 
 // Writes the nybble list of a list's words, in its one spelling; any words and any output may be given.
@@ -57,15 +59,14 @@ pub fn write_nybbles(words: &[u32; 514], out: &mut [u8]) -> Writing
     if number != 0 {
         return Writing { number, count: 0 };
     }
-    let mut codes = [0u8; spell::MAX_CODES];
-    let n = spell::spell(words, &mut codes);
-    let count = spell::nybble_count(&codes, n) / 2;
+    let spelling = Spelling::of(words);
+    let count = spelling.nybble_count() / 2;
     if out.len() < count {
         return Writing {
-            number: refusals::OUTPUT_SHORT,
+            number: Refusal::OutputShort.number(),
             count: 0,
         };
     }
-    pack::put_codes(&codes, n, out);
+    pack::put_codes(spelling.codes(), out);
     Writing { number: 0, count }
 }

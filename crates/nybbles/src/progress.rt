@@ -1,11 +1,13 @@
 // What is read so far, and what a code makes of it.
 ghost use Rattle.std.specs.Prelude.{◌≡◌, length};
+ghost use Rattle.refusals.specs.Answer.{answer_of};
 ghost use Rattle.schedule.specs.Schedule.{Schedule};
 ghost use Rattle.schedule.specs.Private.{SoFar};
-ghost use Rattle.nybbles.specs.Read.{has_room, is_expiry, fault};
+ghost use Rattle.nybbles.specs.Read.{has_room, checks};
 ghost use Rattle.nybbles.specs.Private.{state_of, Short, Passes, Moves};
 
 use crate::code::{Code, Mark};
+use refusals::Refusal;
 use schedule::{LAST_MONTH, MAX_GAP, MAX_LEAPS};
 
 // The months of the gap, those of the whole list, and how many leaps were read. The leaps stand in the words that are handed over.
@@ -16,66 +18,49 @@ pub(crate) struct Progress {
     pub(crate) count: usize,
 }
 
-// Whether a mark may follow that many leaps: a leap needs a place.
-fn has_room(mark: Mark, count: usize) -> bool
-    ensures { result ≡ has_room mark count }
-{
-    match mark {
-        Mark::Continues => true,
-        Mark::Leaps(_) => count < MAX_LEAPS,
-        Mark::Expires => true,
+impl Progress {
+    // Whether a mark may follow: a leap needs a place.
+    fn has_room(self, mark: Mark) -> bool
+        ensures { result ≡ has_room mark self.count }
+    {
+        !matches!(mark, Mark::Leaps(_)) || self.count < MAX_LEAPS
     }
-}
 
-// Whether a mark ends the list.
-pub(crate) fn is_expiry(mark: Mark) -> bool
-    ensures { result ≡ is_expiry mark }
-{
-    match mark {
-        Mark::Continues => false,
-        Mark::Leaps(_) => false,
-        Mark::Expires => true,
+    // The checks at a code, in their order.
+    pub(crate) fn check(self, c: Code) -> Result<(), Refusal>
+        requires { Short self c }
+        ensures { (s : Schedule) → length s.leaps ≡ self.count → answer_of result ≡ checks (state_of self s) c }
+    {
+        if MAX_GAP < self.gap + c.months {
+            return Err(Refusal::BadGap);
+        }
+        if LAST_MONTH < self.total + c.months {
+            return Err(Refusal::PastLastMonth);
+        }
+        if self.has_room(c.mark) {
+            return Ok(());
+        }
+        Err(Refusal::TooManyLeaps)
     }
-}
 
-// The checks at a code, in their order: a refusal's number, or 0.
-pub(crate) fn fault_of(p: Progress, c: Code) -> u8
-    requires { Short p c }
-    ensures { (s : Schedule) → length s.leaps ≡ p.count → result ≡ fault (state_of p s) c }
-{
-    if MAX_GAP < p.gap + c.months {
-        return refusals::BAD_GAP;
-    }
-    if LAST_MONTH < p.total + c.months {
-        return refusals::PAST_LAST_MONTH;
-    }
-    let mark = c.mark;
-    if has_room(mark, p.count) {
-        return 0;
-    }
-    refusals::TOO_MANY_LEAPS
-}
-
-// What is read after a code that passes the checks; its leap goes into `words`.
-pub(crate) fn after_code(p: Progress, c: Code, words: &mut [u32; 514]) -> Progress
-    requires { Passes p.gap p.total p.count c }
-    ensures { (s : Schedule) → SoFar s p.count words.old → Moves p result words.new s c }
-{
-    let gap = p.gap + c.months;
-    let total = p.total + c.months;
-    let count = p.count;
-    let mark = c.mark;
-    match mark {
-        Mark::Continues => Progress { gap, total, count },
-        Mark::Leaps(sign) => {
+    // What is read after a code that passes the checks; its leap goes into `words`.
+    #[tactic(auto, unfolding(crate::specs::Read::after))]
+    pub(crate) fn after(self, c: Code, words: &mut [u32; 514]) -> Progress
+        requires { Passes self.gap self.total self.count c }
+        ensures { (s : Schedule) → SoFar s self.count words.old → Moves self result words.new s c }
+    {
+        let gap = self.gap + c.months;
+        let total = self.total + c.months;
+        let count = self.count;
+        if let Mark::Leaps(sign) = c.mark {
             words[2 * count] = total;
             words[2 * count + 1] = schedule::word_of_sign(sign);
-            Progress {
+            return Progress {
                 gap: 0,
                 total,
                 count: count + 1,
-            }
+            };
         }
-        Mark::Expires => Progress { gap, total, count },
+        Progress { gap, total, count }
     }
 }

@@ -1,162 +1,135 @@
 // The written codes of a list, in its one spelling.
-// A written code is held as one number: a single nybble as itself, two nybbles as the byte that they make.
-ghost use Rattle.std.specs.Prelude.{◌≡◌, true, ◌+◌, ◌≤◌, ◌<◌, length, take};
+ghost use Rattle.std.specs.Prelude.{◌≡◌, true, ℕ, ◌+◌, ◌≤◌, ◌<◌, List, [], ◌∷◌, ◌++◌, length, take};
 ghost use mathlib.Core.List.{map, flatten};
 ghost use Rattle.schedule.specs.Schedule.{leaves_gap, well_formed, max_gap};
 ghost use Rattle.schedule.specs.WordLayout.{meant};
-ghost use Rattle.nybbles.specs.Write.{np_of, pair, months_code, sixes_code, sixes, gap_codes, plain_codes, padded, spelling};
-ghost use Rattle.nybbles.specs.Private.{max_codes, code_of, Stores, Holds};
+ghost use Rattle.nybbles.specs.Codes.{np_of_mark};
+ghost use Rattle.nybbles.specs.Write.{sixes, gap_codes, plain_codes, padded, spelling};
+ghost use Rattle.nybbles.specs.Private.{max_codes, code_of};
 
-use crate::code::{IN_MONTHS, IN_SIXES, NP_EXPIRY, NP_NEGATIVE, NP_NONE, NP_POSITIVE};
-use schedule::Sign;
+use crate::code::Mark;
+use crate::written::WrittenCode;
+use std::marker::Model;
 
-// Room for written codes: each has a month at least, so there are no more of them than months.
-pub(crate) const MAX_CODES: usize = 2400;
+// No list has more written codes: a gap of g months has at most (g + 15) / 16 of them, and there are at most 257 gaps, of 2400 months.
+const MAX_CODES: usize = 390;
 
-pub(crate) type Codes = [u8; MAX_CODES];
-
-// 16 sixes with NP 00.
-const SIXTEEN: u8 = 0x8F;
-
-// NP of a leap.
-fn np_of(sign: Sign) -> u8
-    ensures { result ≡ np_of sign }
-{
-    match sign {
-        Sign::Positive => NP_POSITIVE,
-        Sign::Negative => NP_NEGATIVE,
-    }
+// Written codes.
+#[derive(Drop)]
+pub(crate) struct Spelling {
+    codes: [WrittenCode; MAX_CODES],
+    count: usize,
 }
 
-// 1MNP and its G.
-fn pair(m: u8, np: u8, g: u8) -> u8
-    requires { (m < 2) × ((np < 4) × (g < 16)) }
-    ensures { code_of result ≡ pair m np g }
-{
-    (8 + 4 * m + np) * 16 + g
+impl Model for Spelling {
+    ghost Value = { List (List ℕ) };
+
+    ghost view = { λ s. map code_of (take s.count s.codes) };
+
+    ghost invariant = { λ s. (s.count ≤ max_codes) × (length s.codes ≡ max_codes) };
 }
 
-// The code of 1 to 16 months.
-fn months_code(np: u8, months: u32) -> u8
-    requires { (np < 4) × ((0 < months) × (months ≤ 16)) }
-    ensures { code_of result ≡ months_code np months }
-{
-    pair(IN_MONTHS, np, (months - 1) as u8)
-}
-
-// The code of 1 to 16 sixes: 1 to 8 sixes and a positive leap are a single nybble.
-fn sixes_code(np: u8, k: u32) -> u8
-    requires { (np < 4) × ((0 < k) × (k ≤ 16)) }
-    ensures { code_of result ≡ sixes_code np k }
-{
-    let g = (k - 1) as u8;
-    if np == NP_POSITIVE {
-        if k <= 8 {
-            return g;
+impl Spelling {
+    // No code yet.
+    fn empty() -> Spelling
+        ensures { result ≡ [] }
+    {
+        Spelling {
+            codes: [WrittenCode::SIXTEEN; MAX_CODES],
+            count: 0,
         }
     }
-    pair(IN_SIXES, np, g)
-}
 
-// Writes the codes of k sixes at a place, and returns the place after them.
-fn put_sixes(codes: &mut Codes, at: usize, np: u8, k: u32) -> usize
-    requires { ((np < 4) × (0 < k)) × (at + length (sixes np k) ≤ max_codes) }
-    ensures { Stores codes.old codes.new at result (sixes np k) }
-{
-    let mut n = at;
-    let mut left = k;
-    while 16 < left {
-        codes[n] = SIXTEEN;
-        n += 1;
-        left -= 16;
+    fn push(&mut self, code: WrittenCode)
+        requires { length self.old < max_codes }
+        ensures { self.new ≡ self.old ++ code_of code ∷ [] }
+    {
+        self.codes[self.count] = code;
+        self.count += 1;
     }
-    codes[n] = sixes_code(np, left);
-    n + 1
-}
 
-// Writes the codes of a gap at a place, and returns the place after them.
-fn put_gap(codes: &mut Codes, at: usize, np: u8, gap: u32) -> usize
-    requires { ((np < 4) × ((0 < gap) × (gap ≤ max_gap))) × (at + length (gap_codes np gap) ≤ max_codes) }
-    ensures { Stores codes.old codes.new at result (gap_codes np gap) }
-{
-    if gap % 6 == 0 {
-        return put_sixes(codes, at, np, gap / 6);
+    // The codes of a number of sixes.
+    fn push_sixes(&mut self, mark: Mark, k: u32)
+        requires { (0 < k) × (length self.old + length (sixes (np_of_mark mark) k) ≤ max_codes) }
+        ensures { self.new ≡ self.old ++ sixes (np_of_mark mark) k }
+    {
+        let mut left = k;
+        while 16 < left {
+            self.push(WrittenCode::SIXTEEN);
+            left -= 16;
+        }
+        self.push(WrittenCode::sixes(mark, left));
     }
-    if gap <= 16 {
-        codes[at] = months_code(np, gap);
-        return at + 1;
-    }
-    let next = put_sixes(codes, at, NP_NONE, gap / 12 * 2);
-    codes[next] = months_code(np, gap % 12);
-    next + 1
-}
 
-// Writes the codes of a list, not evened yet, and returns their number.
-fn put_gaps(words: &[u32; 514], codes: &mut Codes) -> usize
-    requires { ((well_formed (meant words.now) ≡ true) × (leaves_gap (meant words.now) ≡ true)) × (length codes.old ≡ max_codes) }
-    ensures { Holds codes.new result (plain_codes (meant words.now)) }
-{
-    let count = schedule::count_of(words);
-    let end = schedule::expiry_month(words);
-    let mut at: usize = 0;
-    let mut last: u32 = 0;
-    let mut i: usize = 0;
-    while i < count {
-        let month = schedule::month_at(words, i);
-        let np = np_of(schedule::sign_at(words, i));
-        at = put_gap(codes, at, np, month - last);
-        last = month;
-        i += 1;
-    }
-    put_gap(codes, at, NP_EXPIRY, end - last)
-}
-
-// How many nybbles a code has.
-fn code_size(c: u8) -> usize
-    ensures { (result ≡ length (code_of c)) × (result ≤ 2) }
-{
-    if c < 16 { 1 } else { 2 }
-}
-
-// How many nybbles the first n codes have.
-pub(crate) fn nybble_count(codes: &Codes, n: usize) -> usize
-    requires { (n ≤ max_codes) × (length codes.now ≡ max_codes) }
-    ensures { result ≡ length (flatten (take n (map code_of codes.now))) }
-{
-    let mut count: usize = 0;
-    let mut i: usize = 0;
-    while i < n {
-        count += code_size(codes[i]);
-        i += 1;
-    }
-    count
-}
-
-// Puts a 9 before the last single nybble of the first n codes, if there is one.
-fn pad(codes: &mut Codes, n: usize)
-    requires { (n ≤ max_codes) × (length codes.old ≡ max_codes) }
-    ensures { Holds codes.new n (padded (take n (map code_of codes.old))) }
-{
-    let mut i = n;
-    while 0 < i {
-        i -= 1;
-        let c = codes[i];
-        if c < 16 {
-            codes[i] = 9 * 16 + c;
+    // The codes of a gap.
+    fn push_gap(&mut self, mark: Mark, gap: u32)
+        requires { (0 < gap) × (gap ≤ max_gap) × (length self.old + length (gap_codes (np_of_mark mark) gap) ≤ max_codes) }
+        ensures { self.new ≡ self.old ++ gap_codes (np_of_mark mark) gap }
+    {
+        if gap % 6 == 0 {
+            self.push_sixes(mark, gap / 6);
             return;
         }
+        if gap <= 16 {
+            self.push(WrittenCode::months(mark, gap));
+            return;
+        }
+        self.push_sixes(Mark::Continues, gap / 12 * 2);
+        self.push(WrittenCode::months(mark, gap % 12));
     }
-}
 
-// Writes the codes of a list, and returns their number.
-pub(crate) fn spell(words: &[u32; 514], codes: &mut Codes) -> usize
-    requires { ((well_formed (meant words.now) ≡ true) × (leaves_gap (meant words.now) ≡ true)) × (length codes.old ≡ max_codes) }
-    ensures { Holds codes.new result (spelling (meant words.now)) }
-{
-    let n = put_gaps(words, codes);
-    if nybble_count(codes, n) % 2 == 0 {
-        return n;
+    // The codes of a list, not evened yet.
+    fn plain(words: &[u32; 514]) -> Spelling
+        requires { (well_formed (meant words.now) ≡ true) × (leaves_gap (meant words.now) ≡ true) }
+        ensures { result ≡ plain_codes (meant words.now) }
+    {
+        let mut spelling = Spelling::empty();
+        let end = schedule::expiry_month(words);
+        let mut last: u32 = 0;
+        for i in 0..schedule::count_of(words) {
+            let month = schedule::month_at(words, i);
+            let sign = schedule::sign_at(words, i);
+            spelling.push_gap(Mark::Leaps(sign), month - last);
+            last = month;
+        }
+        spelling.push_gap(Mark::Expires, end - last);
+        spelling
     }
-    pad(codes, n);
-    n
+
+    pub(crate) fn codes(&self) -> &[WrittenCode]
+        ensures { (map code_of result.now ≡ self.now) × (length result.now ≤ max_codes) }
+    {
+        &self.codes[..self.count]
+    }
+
+    // How many nybbles the codes have.
+    pub(crate) fn nybble_count(&self) -> usize
+        ensures { result ≡ length (flatten self.now) }
+    {
+        self.codes().iter().map(|code| code.size()).sum()
+    }
+
+    // Puts a 9 before the last single nybble, if there is one.
+    fn pad(&mut self)
+        ensures { self.new ≡ padded self.old }
+    {
+        for i in (0..self.count).rev() {
+            if let WrittenCode::Single(v) = self.codes[i] {
+                self.codes[i] = WrittenCode::Pair(9, v);
+                return;
+            }
+        }
+    }
+
+    // The codes of a list.
+    pub(crate) fn of(words: &[u32; 514]) -> Spelling
+        requires { (well_formed (meant words.now) ≡ true) × (leaves_gap (meant words.now) ≡ true) }
+        ensures { result ≡ spelling (meant words.now) }
+    {
+        let mut spelling = Spelling::plain(words);
+        if spelling.nybble_count() % 2 == 1 {
+            spelling.pad();
+        }
+        spelling
+    }
 }
