@@ -1,9 +1,7 @@
 -- The faults of words, counted place by place: there is none exactly when they are the words of a well-formed schedule.
 -- Assumes nothing.
-use Rattle.std.proofs.Common.{◌≡◌, ℕ, zero, suc, ◌+◌, ◌-◌, ◌*◌, ◌%◌, ◌<◌, ◌≤◌, Bool, true, false, ◌&&◌, eqb, ltb, List, length, get_or, drop, sym, refl, ap, ◌∙◌, ap₂, add-one, arith, le-ltb, lt-ltb, eq-eqb, ne_eqb, le-leb}
+use Rattle.std.proofs.Common.{◌≡◌, ℕ, zero, suc, ◌+◌, ◌*◌, ◌<◌, ◌≤◌, Bool, true, ◌&&◌, eqb, ltb, List, length, get_or, drop, sym, refl, ap, ◌∙◌, ap₂, add-one, arith, eq-eqb, ne_eqb}
 use mathlib.Core.Bool.{and_assoc}
-use native.Mathlib.Decide.{dec_lt}
-use borrow.Author.Tests.{lt-leb}
 use Rattle.schedule.specs.Schedule.{Leap, Schedule, max_leaps, max_gap, no_leap, gap_fits, expiry_fits, gaps_fit}
 use Rattle.schedule.specs.Private.{great_month, signs_fit}
 use Rattle.schedule.specs.WordLayout.{count_word, expiry_word, laid_out}
@@ -22,18 +20,6 @@ eqb_sum (suc a) b = ne_eqb (suc a + b) 0 (λ e. omega arith) ∙ sym (rw (ne_eqb
 one_more : (faults r : ℕ) (now rest : Bool) → (faults ≡ 0 → eqb r 0 ≡ now) → (eqb faults 0 && (now && rest)) ≡ (eqb (faults + r) 0 && rest)
 one_more zero r now rest e = let z : 0 + r ≡ r = omega arith in rw (z, e refl)
 one_more (suc faults) r now rest e = rw (ne_eqb (suc faults) 0 (λ z. omega arith), ne_eqb (suc faults + r) 0 (λ z. omega arith))
-
--- ---- a gap told by two differences of 32 bits, which wrap round
-module _ (from to gap past : ℕ) (d : (gap + from) % 4_294_967_296 ≡ to) (e : (past + 1) % 4_294_967_296 ≡ gap) where
-  pub gap_near : from < great_month → past < max_gap → gap_fits from to ≡ true
-  gap_near f h = simp (lt-ltb from to (omega arith), le-leb (to - from) max_gap (omega arith))
-
-  pub gap_far : from < 4_294_967_296 → gap < 4_294_967_296 → past < 4_294_967_296 → max_gap ≤ past → gap_fits from to ≡ false
-  gap_far f g p h =
-      elim (dec_lt from to) [
-        | yes l ↦ simp (lt-ltb from to l, lt-leb (to - from) max_gap (omega arith))
-        | no l ↦ simp (le-ltb from to (omega arith))
-      ]
 
 -- ---- the leaps in use, up to place i: the faults in the gaps, and how great the month is where there is none
 pub record Gapped (s : Schedule) (faults last i : ℕ) : Type 0 where
