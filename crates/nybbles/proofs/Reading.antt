@@ -1,19 +1,19 @@
 -- What a code makes of the state and of the reading, and what holds in the reader's loop.
 -- Assumes nothing.
 use mathlib.Core.Path.{◌≡◌, refl, sym, ap, ◌∙◌}
-use mathlib.Core.Bool.{Bool, true, false}
+use mathlib.Core.Bool.{true, false}
 use mathlib.Core.List.{List}
 use Prim.Native.Nat.{ℕ, ◌+◌, ◌*◌, ◌≤◌, ◌<◌, min}
 use native.Mathlib.Omega.{arith}
 use lib.ListN.{length, drop, set, replicate, drop_of_length-le}
 use lib.Dec.{leb}
-use borrow.Author.Tests.{ltb-true, lt-ltb, le-ltb, leb-true, le-leb, lt-leb, eq-eqb, ne_eqb}
+use borrow.Author.Tests.{ltb-true, lt-ltb, le-ltb, leb-true, eq-eqb, ne_eqb}
 use Rattle.std.specs.Prelude.{Result, Ok}
 use Rattle.refusals.specs.declared.Refusal.{Refusal}
 use Rattle.refusals.specs.Refusals.{number_of}
 use Rattle.refusals.specs.Answer as answer
 use Rattle.schedule.specs.declared.Sign.{Sign}
-use Rattle.schedule.specs.Schedule.{Schedule, max_gap, last_month, blank_schedule}
+use Rattle.schedule.specs.Schedule.{Schedule, blank_schedule}
 use Rattle.schedule.specs.WordLayout.{word_of_sign}
 use Rattle.schedule.specs.Private.{SoFar}
 use Rattle.calendar.specs.Calendar.{month_start}

@@ -1,13 +1,10 @@
 -- `write_nybbles` meets its contract: one answer for a list that can't be written, one for a short output, one for a list that fits.
 -- Assumes nothing.
 use Rattle.std.proofs.Common.{rules}
-use mathlib.Core.Path.{◌≡◌, ap, ◌∙◌}
-use mathlib.Core.List.{List, flatten}
-use Prim.Native.Nat.{ℕ}
-use lib.ListN.{length}
+use mathlib.Core.Path.{◌∙◌}
 use Rattle.schedule.specs.WordLayout.{meant}
 use Rattle.schedule.proofs.Answers as answers
-use Rattle.nybbles.specs.Write.{spelling, nybbles_of}
+use Rattle.nybbles.specs.Write.{nybbles_of}
 use Rattle.nybbles.proofs.Packed as packed
 use Rattle.nybbles.proofs.write_nybbles.Goals as goal
 

@@ -1,8 +1,5 @@
 -- `Spelling::plain` meets its contract. The loop's invariant: the gaps left, after the codes so far, make the whole. Assumes nothing.
-use mathlib.Core.Path.{◌∙◌}
 use native.Mathlib.Omega.{arith}
-use Rattle.schedule.proofs.Gaps.{fits_lt}
-use Rattle.schedule.specs.WordLayout.{meant}
 use Rattle.nybbles.proofs.Filled as filled
 use Rattle.nybbles.proofs.spell.Spelling.plain.Goals as goal
 
