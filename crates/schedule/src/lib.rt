@@ -52,6 +52,14 @@ pub struct ParseError {
     pub place: usize,
 }
 
+impl From<ParseError> for Refusal {
+    ghost from_gives = { λ error why. why ≡ error.refusal };
+
+    fn from(error: ParseError) -> Refusal {
+        error.refusal
+    }
+}
+
 impl Sign {
     // The sign of a word.
     pub fn of(word: u32) -> Sign
