@@ -1,7 +1,7 @@
 -- The reading of a text is what the rules of the list say: a list is taken, with its schedule, and anything else is refused at its first fault from
 -- the left, with that fault's number and place, whatever follows.
 -- Assumes nothing.
-use Rattle.std.proofs.Common.{◌≡◌, ℕ, ◌+◌, ◌*◌, ◌<◌, ◌≤◌, true, false, leb, ltb, eqb, ◌≢◌, ◌⊎◌, ◌↔◌, List, [], ◌∷◌, ◌++◌, length, sym, refl, ap, ◌∙◌, inl, inr, true≢false, append_assoc, append-nil, pos_of_ne-zero, arith, length-append, ltb-false, ltb-true, le-ltb, ne_eqb, eqb-true, le-leb, leb-false, leb-true}
+use Rattle.std.proofs.Common.{◌≡◌, ℕ, ◌+◌, ◌*◌, ◌<◌, ◌≤◌, true, false, leb, ltb, eqb, ◌≢◌, ◌⊎◌, ◌↔◌, List, [], ◌∷◌, ◌++◌, Some, None, length, sym, refl, ap, ◌∙◌, inl, inr, true≢false, append_assoc, append-nil, pos_of_ne-zero, arith, length-append, ltb-false, ltb-true, le-ltb, ne_eqb, eqb-true, le-leb, leb-false, leb-true}
 use borrow.Author.Tests.{eqb-false, lt-leb}
 use Rattle.ascii.specs.Decimal.{decimal}
 use Rattle.schedule.specs.declared.Sign.{Sign}
@@ -9,7 +9,7 @@ use Rattle.schedule.specs.declared.Sign.TheVariants.{Positive, Negative}
 use Rattle.schedule.specs.Schedule.{Leap, Schedule, month_start, blank_schedule}
 use Rattle.schedule.specs.Answers.{Reading, refusal, with_leap}
 use Rattle.schedule.proofs.Cases.{by_bool, by_cond}
-use Rattle.text.specs.declared.Mark.TheVariants.{Leaps, Expires, Neither}
+use Rattle.text.specs.declared.Mark.TheVariants.{Leaps, Expires}
 use Rattle.text.specs.Bytes.{is_digit, digit_of, mark_of, sign_byte}
 use Rattle.text.specs.Read.{may_follow, at_end, read_from, read_text}
 use Rattle.text.specs.Rules.{Digit, NoDigit, IsSign, plus, minus, Awaited, gap, mark, SoFar, start, then_gap, then_sign, IsList, list, Fault, ends, no_gap, no_mark, zero, fourth_digit, past_2400, leap_257, after_end, Ruled, taken, stopped}
@@ -193,11 +193,11 @@ either (inl e) = inl e
 either (inr e) = inr (inl e)
 
 -- neither a sign nor a "?"
-neither : (b : ℕ) → mark_of b ≡ Neither → (b ≢ 43) × (b ≢ 45) × (b ≢ 63)
+neither : (b : ℕ) → mark_of b ≡ None → (b ≢ 43) × (b ≢ 45) × (b ≢ 63)
 neither b m = (
-  λ e. let x : Leaps Positive ≡ Neither = rw e at m in let y : true ≡ false = cc in true≢false y,
-  λ e. let x : Leaps Negative ≡ Neither = rw e at m in let y : true ≡ false = cc in true≢false y,
-  λ e. let x : Expires ≡ Neither = rw e at m in let y : true ≡ false = cc in true≢false y,
+  λ e. let x : Some (Leaps Positive) ≡ None = rw e at m in let y : true ≡ false = cc in true≢false y,
+  λ e. let x : Some (Leaps Negative) ≡ None = rw e at m in let y : true ≡ false = cc in true≢false y,
+  λ e. let x : Some Expires ≡ None = rw e at m in let y : true ≡ false = cc in true≢false y,
 )
 
 -- after the "?"

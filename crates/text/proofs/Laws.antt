@@ -14,20 +14,22 @@ use lib.Dec.{eqb}
 use borrow.Author.Tests.{lt-ltb, le-ltb, le-leb, lt-leb, eq-eqb, ne_eqb}
 use types.Run.{OneOf}
 use denote.Enum.Declared.{tag_of}
+use Rattle.std.specs.Prelude.{Result, Ok, Err, Some, None}
+use Rattle.refusals.specs.Refusals.{number_of}
+use Rattle.schedule.specs.declared.ParseError.{ParseError}
 use Rattle.schedule.specs.Schedule.{Schedule}
 use Rattle.text.specs.contracts.Gap as gap
 use Rattle.text.specs.declared.Cursor.{Cursor}
 use Rattle.text.specs.declared.Gap.{Gap}
 use Rattle.text.specs.declared.Gap.TheVariants.{Months, Ended, Misplaced, Malformed}
-use Rattle.text.specs.declared.End.{End}
-use Rattle.text.specs.declared.End.TheVariants.{Taken, Refusal}
-use Rattle.text.specs.declared.Mark.TheVariants.{Leaps, Expires, Neither}
+use Rattle.text.specs.declared.Mark.{Mark}
+use Rattle.text.specs.declared.Mark.TheVariants.{Leaps, Expires}
 use Rattle.schedule.specs.declared.Sign.{Sign}
 use Rattle.schedule.specs.WordLayout.{word_of_sign}
 use Rattle.calendar.specs.Calendar.{month_start}
 use Rattle.calendar.proofs.Laws.{start_min}
 use Rattle.schedule.specs.Private.{SoFar}
-use Rattle.schedule.specs.Answers.{Reading, refusal, accepted, with_leap, HandsReading}
+use Rattle.schedule.specs.Answers.{Reading, refusal, accepted, with_leap, ReadsInto}
 use Rattle.schedule.proofs.SoFar.{so_far_leap, so_far_end}
 use Rattle.text.specs.Bytes.{is_digit, digit_of, mark_of}
 use Rattle.text.specs.Read.{stopped, may_follow, read_from}
@@ -68,33 +70,31 @@ module _ (bytes : List ℕ) (g p t : ℕ) (s : Schedule) where
     nonzero : eqb g 0 ≡ false
     nonzero = ne_eqb g 0 (λ e. omega (arith, due.some))
 
-    pub unmarked : mark_of (get_or bytes p 0) ≡ Neither → read_from g p t s (drop p bytes) ≡ refusal 2 p
+    pub unmarked : mark_of (get_or bytes p 0) ≡ None → read_from g p t s (drop p bytes) ≡ refusal 2 p
     unfolding read_from
     unmarked m = rw (uncons bytes p h) (simp (due.no_digit h, nonzero, m))
 
-    pub expires_late : mark_of (get_or bytes p 0) ≡ Expires → 2400 < t + g → read_from g p t s (drop p bytes) ≡ refusal 4 p
+    -- a mark past month 2400
+    pub late : (m : Mark) → mark_of (get_or bytes p 0) ≡ Some m → 2400 < t + g → read_from g p t s (drop p bytes) ≡ refusal 4 p
     unfolding read_from
-    expires_late m l = rw (uncons bytes p h) (simp (due.no_digit h, nonzero, m, lt-leb (t + g) 2400 l))
+    late Expires m l = rw (uncons bytes p h) (simp (due.no_digit h, nonzero, m, lt-leb (t + g) 2400 l))
+    late (Leaps k) m l = rw (uncons bytes p h) (simp (due.no_digit h, nonzero, m, lt-leb (t + g) 2400 l))
 
-    pub follows : mark_of (get_or bytes p 0) ≡ Expires → t + g ≤ 2400 → p + 1 < length bytes → read_from g p t s (drop p bytes) ≡ refusal 6 (p + 1)
+    pub follows : mark_of (get_or bytes p 0) ≡ Some Expires → t + g ≤ 2400 → p + 1 < length bytes → read_from g p t s (drop p bytes) ≡ refusal 6 (p + 1)
     unfolding read_from
     follows m l n = rw (uncons bytes p h) (simp (due.no_digit h, nonzero, m, le-leb (t + g) 2400 l, uncons bytes (p + 1) n))
 
-    expires : mark_of (get_or bytes p 0) ≡ Expires → t + g ≤ 2400 → length bytes ≤ p + 1 → read_from g p t s (drop p bytes) ≡ accepted s (month_start (t + g))
+    expires : mark_of (get_or bytes p 0) ≡ Some Expires → t + g ≤ 2400 → length bytes ≤ p + 1 → read_from g p t s (drop p bytes) ≡ accepted s (month_start (t + g))
     unfolding read_from
     expires m l n = rw (uncons bytes p h) (simp (due.no_digit h, nonzero, m, le-leb (t + g) 2400 l, drop_of_length-le bytes n))
 
     -- a list that is taken stands in the words
-    pub takes : mark_of (get_or bytes p 0) ≡ Expires → t + g ≤ 2400 → length bytes ≤ p + 1
+    pub takes : mark_of (get_or bytes p 0) ≡ Some Expires → t + g ≤ 2400 → length bytes ≤ p + 1
         → (n : ℕ) (words : List ℕ) → SoFar s n words → (e : ℕ) → e ≡ month_start (min (t + g) 2400)
-        → Ends (read_from g p t s (drop p bytes)) Taken (set (set words 512 n) 513 e)
+        → Ends (read_from g p t s (drop p bytes)) (Ok tt) (set (set words 512 n) 513 e)
     takes m l f n words kept e is = rw (expires m l f, is ∙ start_min l) (so_far_end s n words kept (month_start (t + g)))
 
-    module _ (k : Sign) (m : mark_of (get_or bytes p 0) ≡ Leaps k) where
-      pub leap_late : 2400 < t + g → read_from g p t s (drop p bytes) ≡ refusal 4 p
-      unfolding read_from
-      leap_late l = rw (uncons bytes p h) (simp (due.no_digit h, nonzero, m, lt-leb (t + g) 2400 l))
-
+    module _ (k : Sign) (m : mark_of (get_or bytes p 0) ≡ Some (Leaps k)) where
       pub leap_full : t + g ≤ 2400 → 256 ≤ length s.leaps → read_from g p t s (drop p bytes) ≡ refusal 5 p
       unfolding read_from
       leap_full l f = rw (uncons bytes p h) (simp (due.no_digit h, nonzero, m, le-leb (t + g) 2400 l, le-ltb (length s.leaps) 256 f))
@@ -104,7 +104,7 @@ module _ (bytes : List ℕ) (g p t : ℕ) (s : Schedule) where
       leaps l f = rw (uncons bytes p h) (simp (due.no_digit h, nonzero, m, le-leb (t + g) 2400 l, lt-ltb (length s.leaps) 256 f))
 
       -- a leap is stored in its place, and the reading goes on
-      pub keeps : t + g ≤ 2400 → (n : ℕ) (words : List ℕ) → n < 256 → SoFar s n words → (w : ℕ) → w ≡ word_of_sign k → (r : End) (words' : List ℕ)
+      pub keeps : t + g ≤ 2400 → (n : ℕ) (words : List ℕ) → n < 256 → SoFar s n words → (w : ℕ) → w ≡ word_of_sign k → (r : Result (Unit {0}) ParseError) (words' : List ℕ)
           → ((s' : Schedule) → SoFar s' (n + 1) (set (set words (2 * n) (t + g)) (2 * n + 1) w) → Ends (read_from 0 (p + 1) (t + g) s' (drop (p + 1) bytes)) r words')
           → Ends (read_from g p t s (drop p bytes)) r words'
       keeps l n words f kept w e r words' on =
@@ -123,12 +123,12 @@ stops bytes p (Misplaced c) k h t s words = h t s
 stops bytes p (Malformed c) k h t s words = h t s
 
 -- a reading by how it ended
-module _ (reading : Reading) (e : End) (words : List ℕ) where
-  pub was_taken : e ≡ Taken → Ends reading e words → HandsReading reading 0 words 0
-  was_taken q h = subst (λ (x : End). Ends reading x words) q h
+module _ (reading : Reading) (words : List ℕ) where
+  pub was_taken : {r : Result (Unit {0}) ParseError} {v : Unit {0}} → r ≡ Ok v → Ends reading r words → ReadsInto reading (Ok tt) words
+  was_taken q h = subst (λ (x : Result (Unit {0}) ParseError). Ends reading x words) q h
 
-  pub was_refused : (n p : ℕ) → e ≡ Refusal n p → Ends reading e words → (number place : ℕ) (out : List ℕ) → HandsReading (refusal n p) number out place
-      → HandsReading reading number out place
-  was_refused n p q h number place out hands =
-      let is : reading ≡ refusal n p = subst (λ (x : End). Ends reading x words) q h in
-      rw is hands
+  pub was_refused : {r : Result (Unit {0}) ParseError} {e : ParseError} → r ≡ Err e → Ends reading r words → {out : List ℕ} {r' : Result (Unit {0}) ParseError}
+      → ReadsInto (refusal (number_of e.refusal) e.place) r' out → ReadsInto reading r' out
+  was_refused {e} q h into =
+      let is : reading ≡ refusal (number_of e.refusal) e.place = subst (λ (x : Result (Unit {0}) ParseError). Ends reading x words) q h in
+      rw is into

@@ -9,9 +9,10 @@ use native.Mathlib.Omega.{arith}
 use lib.ListN.{length}
 use lib.Dec.{ltb, leb, eqb}
 use borrow.Author.Tests.{ltb-true, ltb-false, leb-true, eqb-true, eqb-false, ne_eqb}
+use Rattle.std.specs.Prelude.{Some, None}
 use Rattle.schedule.specs.declared.Sign.{Sign}
 use Rattle.schedule.specs.declared.Sign.TheVariants.{Positive, Negative}
-use Rattle.text.specs.declared.Mark.TheVariants.{Leaps, Expires, Neither}
+use Rattle.text.specs.declared.Mark.TheVariants.{Leaps, Expires}
 use Rattle.schedule.specs.Schedule.{Leap, Schedule, month_start, blank_schedule}
 use Rattle.calendar.proofs.Laws.{month_of_start}
 use Rattle.schedule.specs.Answers.{Reading, refusal, accepted, with_leap}
@@ -24,17 +25,17 @@ use Rattle.text.proofs.Follow.{digit_low, digit_high, makes_gap}
 use Rattle.text.proofs.Cases.{by_mark_lem}
 
 -- what a mark's byte is
-pub sign_byte_lem : (b : ℕ) (k : Sign) → mark_of b ≡ Leaps k → b ≡ sign_byte k
+pub sign_byte_lem : (b : ℕ) (k : Sign) → mark_of b ≡ Some (Leaps k) → b ≡ sign_byte k
 sign_byte_lem b k e =
-    by_bool (eqb b 43) (λ p. let q : Leaps Positive ≡ Leaps k = simp p at e in let r : Positive ≡ k = cc in eqb-true b 43 p ∙ ap sign_byte r)
-    (λ p. by_bool (eqb b 45) (λ q. let m : Leaps Negative ≡ Leaps k = simp (p, q) at e in let r : Negative ≡ k = cc in eqb-true b 45 q ∙ ap sign_byte r)
-    (λ q. by_bool (eqb b 63) (λ r. let m : Expires ≡ Leaps k = simp (p, q, r) at e in cc) (λ r. let m : Neither ≡ Leaps k = simp (p, q, r) at e in cc)))
+    by_bool (eqb b 43) (λ p. let q : Some (Leaps Positive) ≡ Some (Leaps k) = simp p at e in let r : Positive ≡ k = cc in eqb-true b 43 p ∙ ap sign_byte r)
+    (λ p. by_bool (eqb b 45) (λ q. let m : Some (Leaps Negative) ≡ Some (Leaps k) = simp (p, q) at e in let r : Negative ≡ k = cc in eqb-true b 45 q ∙ ap sign_byte r)
+    (λ q. by_bool (eqb b 63) (λ r. let m : Some Expires ≡ Some (Leaps k) = simp (p, q, r) at e in cc) (λ r. let m : None ≡ Some (Leaps k) = simp (p, q, r) at e in cc)))
 
-pub end_byte_lem : (b : ℕ) → mark_of b ≡ Expires → b ≡ 63
+pub end_byte_lem : (b : ℕ) → mark_of b ≡ Some Expires → b ≡ 63
 end_byte_lem b e =
-    by_bool (eqb b 43) (λ p. let m : Leaps Positive ≡ Expires = simp p at e in cc)
-    (λ p. by_bool (eqb b 45) (λ q. let m : Leaps Negative ≡ Expires = simp (p, q) at e in cc)
-    (λ q. by_bool (eqb b 63) (λ r. eqb-true b 63 r) (λ r. let m : Neither ≡ Expires = simp (p, q, r) at e in cc)))
+    by_bool (eqb b 43) (λ p. let m : Some (Leaps Positive) ≡ Some Expires = simp p at e in cc)
+    (λ p. by_bool (eqb b 45) (λ q. let m : Some (Leaps Negative) ≡ Some Expires = simp (p, q) at e in cc)
+    (λ q. by_bool (eqb b 63) (λ r. eqb-true b 63 r) (λ r. let m : None ≡ Some Expires = simp (p, q, r) at e in cc)))
 
 -- the digits of a gap so far: none where a gap is due
 pub spelled : ℕ → List ℕ

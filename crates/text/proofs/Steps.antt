@@ -1,134 +1,140 @@
--- The text of a schedule from a leap on: what the loops of the writer go by.
+-- The text of a schedule, gap by gap: what holds in the loop of `Text::of`.
 -- Assumes nothing.
 use mathlib.Core.Path.{◌≡◌, refl, sym, ap, ◌∙◌}
 use mathlib.Core.Bool.{true}
-use mathlib.Core.List.{List, ◌∷◌, ◌++◌}
-use Prim.Native.Nat.{ℕ, ◌+◌, ◌-◌, ◌≤◌, ◌<◌}
+use mathlib.Core.List.{List, [], ◌∷◌, ◌++◌, append_assoc}
+use Prim.Native.Nat.{ℕ, suc, ◌+◌, ◌-◌, ◌/◌, ◌%◌, ◌≤◌, ◌<◌}
+use native.Mathlib.Numerals.{add-one}
 use native.Mathlib.Omega.{arith}
-use lib.ListN.{length, drop, length-append, drop_of_length-le}
-use lib.Seq.{sets, length-sets}
-use Rattle.schedule.specs.Schedule.{Leap, Schedule, gap_fits, expiry_month, leaves_gap, well_formed}
-use Rattle.schedule.specs.WordLayout.{count_word, month_word, sign_word, sign_of, leap_at, meant}
-use Rattle.schedule.specs.Answers.{unwritable}
+use lib.ListN.{length, get_or, take, drop, set, length-append, drop_of_length-le}
+use lib.Seq.{sets, sets-eq, length-take-le, take_at}
+use Rattle.schedule.specs.Schedule.{Leap, Schedule, no_leap, gap_fits, expiry_month, leaves_gap, well_formed}
+use Rattle.schedule.proofs.Formed.{in_use}
 use Rattle.schedule.proofs.Gaps.{fits_lt, fits_le}
-use Rattle.schedule.proofs.Meant.{count_is, count_room, leap_at_lem}
-use Rattle.schedule.proofs.Answers.{writable}
 use Rattle.schedule.proofs.Rounded.{gaps_to, first_to, later_to, last_to, rounded_gaps}
-use Rattle.schedule.proofs.Formed as formed
-use Rattle.schedule.proofs.Stores.{sets_append}
 use Rattle.text.specs.Bytes.{sign_byte, end_byte}
 use Rattle.text.specs.Write.{digits, marked, text_from, text_of}
-use Rattle.text.proofs.Digits.{few}
+use Rattle.text.proofs.Digits.{one, two, three}
+use Rattle.text.proofs.Longest.{at_most_752}
 
--- a gap and its mark have 2 to 4 bytes
-pub marked_length : (g mark : ℕ) → length (marked g mark) ≡ length (digits g) + 1
-marked_length g mark = simp length-append
+-- bytes stored after the first n
+pub stored : (xs bytes : List ℕ) (n m : ℕ) → n + length xs ≡ m → m ≤ length bytes → take m (sets bytes n xs) ≡ take n bytes ++ xs
+stored xs bytes n m e h =
+    let l : length (take n bytes ++ xs) ≡ m = omega (arith, length-append (take n bytes) xs, length-take-le n bytes) in
+    ap (take m) (sets-eq xs bytes n (omega arith)) ∙ take_at (take n bytes ++ xs) _ m l
 
-pub marked_few : (g mark : ℕ) → length (marked g mark) ≤ 4
-marked_few g mark = omega (arith, marked_length g mark, few g)
+add_two : (n : ℕ) → n + 2 ≡ suc (suc n)
+add_two n = omega arith
+
+add_three : (n : ℕ) → n + 3 ≡ suc (suc (suc n))
+add_three n = omega arith
+
+-- a gap and its mark, stored after the first n bytes, which are the text so far: one digit, two and three
+module _
+    (bytes text : List ℕ) (n gap mark : ℕ) (all : (n ≤ 752) × (length bytes ≡ 752)) (v : take n bytes ≡ text)
+    (room : length text + length (marked gap mark) ≤ 752) where
+  many : length text ≡ n
+  many = sym (ap length v) ∙ length-take-le n bytes (omega arith)
+
+  size : length (marked gap mark) ≡ length (digits gap) + 1
+  size = simp length-append
+
+  module _ (h : gap < 10) where
+    pub one_room : n + 2 ≤ 752
+    one_room = omega (arith, many, size, ap length (one gap h))
+
+    pub one_put : take (n + 2) (set (set bytes n (48 + gap)) (n + 1) mark) ≡ text ++ marked gap mark
+    one_put =
+        let e = stored ((48 + gap) ∷ mark ∷ []) bytes n (n + 2) (omega arith) (omega (arith, one_room)) in
+        rw (one gap h, ← v, add-one) e
+
+  module _ (l : 10 ≤ gap) (h : gap < 100) where
+    pub two_room : n + 3 ≤ 752
+    two_room = omega (arith, many, size, ap length (two gap l h))
+
+    pub two_put : take (n + 3) (set (set (set bytes n (48 + gap / 10)) (n + 1) (48 + gap % 10)) (n + 2) mark) ≡ text ++ marked gap mark
+    two_put =
+        let e = stored ((48 + gap / 10) ∷ (48 + gap % 10) ∷ mark ∷ []) bytes n (n + 3) (omega arith) (omega (arith, two_room)) in
+        rw (two gap l h, ← v, add-one, add_two) e
+
+  module _ (l : 100 ≤ gap) where
+    pub three_room : n + 4 ≤ 752
+    three_room = omega (arith, many, size, ap length (three gap l))
+
+    pub three_put : take (n + 4) (set (set (set (set bytes n (48 + gap / 100)) (n + 1) (48 + gap / 10 % 10)) (n + 2) (48 + gap % 10)) (n + 3) mark) ≡ text ++ marked gap mark
+    three_put =
+        let e = stored ((48 + gap / 100) ∷ (48 + gap / 10 % 10) ∷ (48 + gap % 10) ∷ mark ∷ []) bytes n (n + 4) (omega arith) (omega (arith, three_room)) in
+        rw (three gap l, ← v, add-one, add_two, add_three) e
+
+-- bytes copied to the start of an output
+pub copied : (bytes out : List ℕ) → length bytes ≤ length out → bytes ++ drop (length bytes) out ≡ sets out 0 bytes
+copied bytes out h =
+    let z : 0 + length bytes ≡ length bytes = omega arith in
+    sym (sets-eq bytes out 0 (omega arith) ∙ ap (λ (k : ℕ). bytes ++ drop k out) z)
 
 -- the text from the leap i on, the month before it being `last`
 abbrev pub rest : Schedule → ℕ → ℕ → List ℕ
 rest s i last = text_from last (drop i s.leaps) (expiry_month s)
 
--- where a writer stands before the leap i: n bytes of the text are behind it
-pub record Standing (s : Schedule) (n i last : ℕ) : Type 0 where
-  pub within : i ≤ length s.leaps
+-- what `push` asks
+abbrev Asked : List ℕ → ℕ → ℕ → Type 0
+Asked text gap mark = (gap ≤ 999) × (length text + length (marked gap mark) ≤ 752)
+
+-- the gaps left, after the text so far, make the whole
+pub record Standing (s : Schedule) (text : List ℕ) (last i : ℕ) : Type 0 where
   pub gaps : gaps_to last (drop i s.leaps) (expiry_month s) ≡ true
-  pub left : n + length (rest s i last) ≡ length (text_of s)
+  pub whole : text ++ rest s i last ≡ text_of s
 
--- where a writer stands whose output was out₀ and is now out: what is still to be stored makes the whole text
-pub record Storing (s : Schedule) (out₀ out : List ℕ) (n i last : ℕ) : Type 0 where
-  pub standing : Standing s n i last
-  pub same : length out ≡ length out₀
-  pub stores : sets out n (rest s i last) ≡ sets out₀ 0 (text_of s)
-
--- the words of a list that can be written; its count and the month to which its expiry is rounded down
-module _ (words : List ℕ) (u : unwritable (meant words) ≡ 0) {count end : ℕ} (k : count ≡ count_word words) (d : end ≡ expiry_month (meant words)) where
-  w : (well_formed (meant words) ≡ true) × (leaves_gap (meant words) ≡ true)
-  w = writable (meant words) u
-
-  many : length (meant words).leaps ≡ count
-  many = count_is words w.0 ∙ sym k
-
-  pub room : count ≤ 256
-  room = omega (arith, count_room words w.0)
-
-  pub start : Standing (meant words) 0 0 0
+module _ (s : Schedule) (w : well_formed s ≡ true) (g : leaves_gap s ≡ true) where
+  pub start : Standing s [] 0 0
   unfolding text_of
-  start = record { within = omega arith; gaps = rounded_gaps (meant words) w.0 w.1; left = omega arith }
+  start = record { gaps = rounded_gaps s w g; whole = refl }
 
-  pub start_storing : (out : List ℕ) → Storing (meant words) out out 0 0 0
-  unfolding text_of
-  start_storing out = record { standing = start; same = refl; stores = refl }
+  module _ (text : List ℕ) (last i : ℕ) (st : Standing s text last i) where
+    few : length text + length (rest s i last) ≤ 752
+    few = omega (arith, at_most_752 s w, simp length-append at (ap length st.whole))
 
-  module _ (n i last : ℕ) (st : Standing (meant words) n i last) where
     -- at a leap
-    module _ (h : i < count) (month : ℕ) (e : month ≡ month_word words i) where
-      here : drop i (meant words).leaps ≡ leap_at words i ∷ drop (i + 1) (meant words).leaps
-      here =
-          formed.in_use (meant words) i (omega (arith, many))
-          ∙ ap (λ (l : Leap). l ∷ drop (i + 1) (meant words).leaps) (leap_at_lem words w.0 i)
+    module _ (h : i < length s.leaps) where
+      abbrev l : Leap
+      l = get_or s.leaps i no_leap
 
-      fits : gap_fits last month ≡ true
-      fits = rw e (first_to last (leap_at words i) (drop (i + 1) (meant words).leaps) (expiry_month (meant words)) (rw here at st.gaps))
+      abbrev here : List ℕ
+      here = marked (l.month - last) (sign_byte l.sign)
 
-      pub gap_sure : (last ≤ month) × (month - last ≤ 999)
-      gap_sure = let a = fits_lt last month fits in (omega arith, fits_le last month fits)
+      fits : gap_fits last l.month ≡ true
+      fits = first_to last l (drop (i + 1) s.leaps) (expiry_month s) (rw (in_use s i h) at st.gaps)
 
-      pub next_text : rest (meant words) i last ≡ marked (month - last) (sign_byte (sign_of (sign_word words i))) ++ rest (meant words) (i + 1) month
+      pub next_above : last < l.month
+      next_above = fits_lt last l.month fits
+
+      next_text : rest s i last ≡ here ++ rest s (i + 1) l.month
       unfolding text_from
-      next_text = rw (here, e)
+      next_text = rw (in_use s i h)
 
-      next_length : (mark : ℕ) → length (rest (meant words) i last) ≡ length (marked (month - last) mark) + length (rest (meant words) (i + 1) month)
-      next_length mark =
-          ap length next_text
-          ∙ simp length-append (omega (arith, marked_length (month - last) mark, marked_length (month - last) (sign_byte (sign_of (sign_word words i)))))
+      pub next_asked : Asked text (l.month - last) (sign_byte l.sign)
+      next_asked = (fits_le last l.month fits, omega (arith, few, ap length next_text ∙ length-append here (rest s (i + 1) l.month)))
 
-      pub next : (m mark : ℕ) → m ≡ n + length (marked (month - last) mark) → Standing (meant words) m (i + 1) month
-      next m mark j =
-          record {
-            within = omega (arith, many);
-            gaps = rw e (later_to last (leap_at words i) (drop (i + 1) (meant words).leaps) (expiry_month (meant words)) (rw here at st.gaps));
-            left = omega (arith, next_length mark, st.left);
-          }
-
-      -- there is room for this leap's bytes wherever there is for the text
-      pub next_room : (mark j : ℕ) → length (text_of (meant words)) ≤ j → n + length (marked (month - last) mark) ≤ j
-      next_room mark j f = omega (arith, next_length mark, st.left)
+      pub next : Standing s (text ++ here) l.month (i + 1)
+      next = record {
+        gaps = later_to last l (drop (i + 1) s.leaps) (expiry_month s) (rw (in_use s i h) at st.gaps);
+        whole = append_assoc text here (rest s (i + 1) l.month) ∙ (ap (λ (bs : List ℕ). text ++ bs) (sym next_text) ∙ st.whole);
+      }
 
     -- at the expiry
-    module _ (h : count ≤ i) where
-      past : length (meant words).leaps ≤ i
-      past = omega (arith, many)
+    module _ (h : length s.leaps ≤ i) where
+      fits_end : gap_fits last (expiry_month s) ≡ true
+      fits_end = sym (last_to s i last (expiry_month s) h) ∙ st.gaps
 
-      fits_end : gap_fits last end ≡ true
-      fits_end = rw d (sym (last_to (meant words) i last (expiry_month (meant words)) past) ∙ st.gaps)
+      pub end_above : last < expiry_month s
+      end_above = fits_lt last (expiry_month s) fits_end
 
-      pub end_sure : (last ≤ end) × (end - last ≤ 999)
-      end_sure = let a = fits_lt last end fits_end in (omega arith, fits_le last end fits_end)
-
-      pub end_text : rest (meant words) i last ≡ marked (end - last) end_byte
+      end_text : rest s i last ≡ marked (expiry_month s - last) end_byte
       unfolding text_from
-      end_text = rw (drop_of_length-le (meant words).leaps past, d)
+      end_text = rw (drop_of_length-le s.leaps h)
 
-      pub end_length : n + length (marked (end - last) end_byte) ≡ length (text_of (meant words))
-      end_length = omega (arith, ap length end_text, st.left)
+      pub end_asked : Asked text (expiry_month s - last) end_byte
+      end_asked = (fits_le last (expiry_month s) fits_end, omega (arith, few, ap length end_text))
 
-  module _ (out₀ out : List ℕ) (n i last : ℕ) (st : Storing (meant words) out₀ out n i last) where
-    pub next_storing : (h : i < count) (month : ℕ) → month ≡ month_word words i → (mark : ℕ) → mark ≡ sign_byte (sign_of (sign_word words i))
-        → (exit : List ℕ) (m : ℕ) → (m ≡ n + length (marked (month - last) mark)) × (exit ≡ sets out n (marked (month - last) mark))
-        → Storing (meant words) out₀ exit m (i + 1) month
-    next_storing h month e mark g exit m p =
-        let whole = next_text n i last st.standing h month e in
-        let text : marked (month - last) mark ++ rest (meant words) (i + 1) month ≡ marked (month - last) (sign_byte (sign_of (sign_word words i))) ++ rest (meant words) (i + 1) month
-        = ap (λ (b : ℕ). marked (month - last) b ++ rest (meant words) (i + 1) month) g in
-        record {
-          standing = next n i last st.standing h month e m mark p.0;
-          same = ap length p.1 ∙ length-sets out n (marked (month - last) mark) ∙ st.same;
-          stores = rw (p.0, p.1)
-              (sym (sets_append (marked (month - last) mark) out n (rest (meant words) (i + 1) month)) ∙ (ap (sets out n) (text ∙ sym whole) ∙ st.stores));
-        }
-
-    pub end_storing : count ≤ i → (exit : List ℕ) → exit ≡ sets out n (marked (end - last) end_byte) → exit ≡ sets out₀ 0 (text_of (meant words))
-    end_storing h exit p = p ∙ ap (sets out n) (sym (end_text n i last st.standing h)) ∙ st.stores
+      pub end : text ++ marked (expiry_month s - last) end_byte ≡ text_of s
+      end = ap (λ (bs : List ℕ). text ++ bs) (sym end_text) ∙ st.whole

@@ -1,10 +1,10 @@
 -- The bytes of a text list.
 -- Assumes nothing: these are definitions.
-use Rattle.std.specs.Prelude.{ℕ, ◌-◌, Bool, ◌&&◌, cond, leb, eqb}
+use Rattle.std.specs.Prelude.{ℕ, ◌-◌, Bool, ◌&&◌, cond, Option, Some, None, leb, eqb}
 use Rattle.schedule.specs.declared.Sign.{Sign}
 use Rattle.schedule.specs.declared.Sign.TheVariants.{Positive, Negative}
 use Rattle.text.specs.declared.Mark.{Mark}
-use Rattle.text.specs.declared.Mark.TheVariants.{Leaps, Expires, Neither}
+use Rattle.text.specs.declared.Mark.TheVariants.{Leaps, Expires}
 
 -- "0", "9", "+", "-" and "?"
 abbrev pub zero_byte : ℕ
@@ -29,9 +29,12 @@ is_digit b = leb zero_byte b && leb b nine_byte
 abbrev pub digit_of : ℕ → ℕ
 digit_of b = b - zero_byte
 
--- what a byte is where a mark is due: a sign, the expiry's "?", or neither
-abbrev pub mark_of : ℕ → Mark
-mark_of b = cond (eqb b plus_byte) (Leaps Positive) (cond (eqb b minus_byte) (Leaps Negative) (cond (eqb b end_byte) Expires Neither))
+-- the mark that a byte is where one is due: a sign, the expiry's "?", or none
+abbrev pub mark_of : ℕ → Option Mark
+mark_of b =
+    cond (eqb b plus_byte) (Some (Leaps Positive))
+    (cond (eqb b minus_byte) (Some (Leaps Negative))
+    (cond (eqb b end_byte) (Some Expires) None))
 
 -- the byte of a sign
 abbrev pub sign_byte : Sign → ℕ

@@ -1,25 +1,25 @@
 -- "The text list": what reading a text answers, from the left.
 -- Assumes nothing: these are definitions.
-use Rattle.std.specs.Prelude.{ℕ, ◌+◌, ◌*◌, Bool, cond, not, List, [], ◌∷◌, ltb, leb, eqb, length}
+use Rattle.std.specs.Prelude.{ℕ, ◌+◌, ◌*◌, Bool, cond, not, Option, Some, None, Result, Ok, Err, List, [], ◌∷◌, ltb, leb, eqb, length}
 use Rattle.refusals.specs.Refusals.{ends_early, not_allowed, bad_gap, past_last_month, too_many_leaps, after_end}
+use Rattle.refusals.specs.declared.Refusal.TheVariants.{EndsEarly, NotAllowed, BadGap}
 use Rattle.schedule.specs.declared.Sign.{Sign}
+use Rattle.schedule.specs.declared.ParseError.{ParseError}
 use Rattle.schedule.specs.Schedule.{Schedule, blank_schedule, last_month, month_start, max_leaps}
 use Rattle.schedule.specs.Answers.{Reading, refusal, accepted, with_leap}
 use Rattle.text.specs.declared.Gap.{Gap}
 use Rattle.text.specs.declared.Gap.TheVariants.{Months, Ended, Misplaced, Malformed}
-use Rattle.text.specs.declared.End.{End}
-use Rattle.text.specs.declared.End.TheVariants.{Refusal}
 use Rattle.text.specs.declared.Mark.{Mark}
-use Rattle.text.specs.declared.Mark.TheVariants.{Leaps, Expires, Neither}
+use Rattle.text.specs.declared.Mark.TheVariants.{Leaps, Expires}
 use Rattle.text.specs.Bytes.{zero_byte, is_digit, digit_of, mark_of}
 
--- "a gap is read, or the reading stops there with a number and a place": the number and the place of each case in which none was read; a gap that
+-- "a gap is read, or the reading stops there with a number and a place": the refusal and the place of each case in which none was read; a gap that
 -- is there is no refusal
-abbrev pub stopped : Gap → End
-stopped (Ended c) = Refusal ends_early c.at
-stopped (Misplaced c) = Refusal not_allowed c.at
-stopped (Malformed c) = Refusal bad_gap c.at
-stopped (Months g c) = Refusal 0 0
+abbrev pub stopped : Gap → Result (Unit {0}) ParseError
+stopped (Ended c) = Err (record { refusal = EndsEarly; place = c.at })
+stopped (Misplaced c) = Err (record { refusal = NotAllowed; place = c.at })
+stopped (Malformed c) = Err (record { refusal = BadGap; place = c.at })
+stopped (Months g c) = Ok tt
 
 -- whether a digit may stand after the digits of a gap so far (0 where a gap starts): no "0" where a gap starts, and no fourth digit
 abbrev pub may_follow : ℕ → ℕ → Bool
@@ -30,11 +30,11 @@ abbrev pub at_end : ℕ → Schedule → ℕ → List ℕ → Reading
 at_end place s expiry [] = accepted s expiry
 at_end place s expiry (b ∷ bs) = refusal after_end place
 
--- one answer for each kind of mark
-abbrev pub by_mark : Mark → Reading → Reading → (Sign → Reading) → Reading
-by_mark Neither n e l = n
-by_mark Expires n e l = e
-by_mark (Leaps g) n e l = l g
+-- one answer where there is no mark, and one for each kind of mark
+abbrev pub by_mark : Option Mark → Reading → Reading → (Sign → Reading) → Reading
+by_mark None n e l = n
+by_mark (Some Expires) n e l = e
+by_mark (Some (Leaps g)) n e l = l g
 
 -- What reading the bytes from a place on answers. `gap` is the gap that the digits before the place make, 0 where a gap starts; `total` the months
 -- before that gap; s has the leaps so far.

@@ -5,15 +5,10 @@ use Rattle.text.specs.Read.{read_text}
 use Rattle.text.proofs.Laws as laws
 use Rattle.text.proofs.read_text.Goals as goal
 
-pub returns-in-Taken : goal.returns-in-Taken
+pub returns-in-Err : goal.returns-in-Err
 unfolding read_text
-returns-in-Taken c =
-    let read_gap = c.read_gap-end in
-    laws.was_taken _ _ _ c.in-Taken.is (read_gap.ensures blank_schedule so_far_blank)
+returns-in-Err c = laws.was_refused _ _ c.in-Err.is (c.read_gap.ensures blank_schedule so_far_blank) c.refuse.ensures
 
-pub returns-in-Refusal : goal.returns-in-Refusal
+pub returns : goal.returns
 unfolding read_text
-returns-in-Refusal c =
-    let read_gap = c.read_gap-end in
-    let hand_refusal = c.hand_refusal in
-    laws.was_refused _ _ _ _ _ c.in-Refusal.is (read_gap.ensures blank_schedule so_far_blank) _ _ _ hand_refusal.ensures
+returns c = laws.was_taken _ _ c.in_default.is (c.read_gap.ensures blank_schedule so_far_blank)

@@ -1,59 +1,35 @@
--- `text::write_text` meets its contract: the number with which every writer refuses, or 7, or the list. Assumes nothing.
-use mathlib.Core.Path.{◌≡◌, sym, ap, ◌∙◌}
+-- `text::write_text` meets its contract: the refusal that every writer gives, or 7, or the list. Assumes nothing.
+use Rattle.std.proofs.Common.{rules}
+use mathlib.Core.Path.{ap, ◌∙◌}
 use mathlib.Core.List.{List}
 use Prim.Native.Nat.{ℕ}
-use native.Mathlib.Omega.{arith}
-use Rattle.schedule.specs.Schedule.{Schedule, month_of}
-use Rattle.schedule.specs.Answers.{unwritable, unwritten}
+use lib.ListN.{length}
+use lib.Seq.{sets}
+use Rattle.schedule.specs.WordLayout.{meant}
 use Rattle.schedule.proofs.Answers as answers
-use Rattle.schedule.proofs.Meant.{expiry_is}
+use Rattle.text.specs.Write.{text_of}
+use Rattle.text.proofs.Steps.{copied}
 use Rattle.text.proofs.write_text.Goals as goal
 
--- a number that is not 0 is the refusal
-refuses : (s : Schedule) (bytes out : List ℕ) {n : ℕ} → n ≡ unwritable s → (n ≡ 0 → ⊥) → answers.Answer s bytes out (unwritten n) out
-refuses s bytes out e h = rw e (answers.refused s bytes out (λ z. h (e ∙ z)))
+pub returns-in_err-writable : goal.returns-in_err-writable
+returns-in_err-writable c =
+    let s = meant c.args.words.now in
+    let e = answers.refused s (text_of s) c.args.out.now c.args.words.now c.in_err-writable.ensures in
+    search rules
 
-pub returns-then-number-ne0 : goal.returns-then-number-ne0
-returns-then-number-ne0 c =
-    let unwritable = c.unwritable-number in
-    let if1 = c.if-number-ne0 in
-    refuses _ _ _ unwritable.ensures if1.true
+pub of-text-requires : goal.of-text-requires
+of-text-requires c = let can = answers.writable_lem (meant c.args.words.now) c.in_ok-writable.ensures in rw can.2 can.1
 
-pub text_len-n-requires : goal.text_len-n-requires
-text_len-n-requires c =
-    let unwritable = c.unwritable-number in
-    let if1 = c.if-number-ne0 in
-    let expiry_month = c.expiry_month-end in
-    let args = c.args in
-    let u = sym unwritable.ensures ∙ if1.false in
-    (u, expiry_month.ensures ∙ ap month_of (sym (expiry_is args.words.now (answers.writable _ u).0)))
-
-pub returns-then-out-n : goal.returns-then-out-n
-returns-then-out-n c =
-    let unwritable = c.unwritable-number in
-    let if1 = c.if-number-ne0 in
-    let text_len = c.text_len-n in
-    let if2 = c.if-out-n in
-    let w = answers.writable _ (sym unwritable.ensures ∙ if1.false) in
-    answers.short _ _ _ w.0 w.1 _ text_len.ensures if2.true
-
-pub put_text-requires : goal.put_text-requires
-put_text-requires c =
-    let unwritable = c.unwritable-number in
-    let if1 = c.if-number-ne0 in
-    let expiry_month = c.expiry_month-end in
-    let args = c.args in
-    let text_len = c.text_len-n in
-    let if2 = c.if-out-n in
-    let u = sym unwritable.ensures ∙ if1.false in
-    ((u, expiry_month.ensures ∙ ap month_of (sym (expiry_is args.words.now (answers.writable _ u).0))), omega (arith, text_len.ensures, if2.false))
+pub returns-then-out-count : goal.returns-then-out-count
+returns-then-out-count c =
+    let can = answers.writable_lem (meant c.args.words.now) c.in_ok-writable.ensures in
+    let its_text = c.bytes-bytes.ensures ∙ (c.of-text.ensures ∙ ap (λ (ws : List ℕ). text_of (meant ws)) can.2) in
+    answers.short _ _ _ can.0 can.1 _ (ap length its_text) c.if-out-count.true
 
 pub returns : goal.returns
 returns c =
-    let unwritable = c.unwritable-number in
-    let if1 = c.if-number-ne0 in
-    let text_len = c.text_len-n in
-    let if2 = c.if-out-n in
-    let put_text = c.put_text in
-    let w = answers.writable _ (sym unwritable.ensures ∙ if1.false) in
-    answers.taken _ _ _ w.0 w.1 _ text_len.ensures if2.false _ put_text.ensures
+    let s = meant c.args.words.now in
+    let can = answers.writable_lem s c.in_ok-writable.ensures in
+    let its_text = c.bytes-bytes.ensures ∙ (c.of-text.ensures ∙ ap (λ (ws : List ℕ). text_of (meant ws)) can.2) in
+    rw c.copy_from_slice.ensures.after
+    (answers.taken s (text_of s) _ can.0 can.1 _ (ap length its_text) c.if-out-count.false _ (copied _ _ c.if-out-count.false ∙ ap (sets c.args.out.now 0) its_text))
