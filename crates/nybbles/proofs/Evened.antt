@@ -6,6 +6,7 @@ use mathlib.Core.List.{List, [], ◌∷◌, map, flatten}
 use Prim.Native.Nat.{ℕ, zero, suc, ◌+◌, ◌-◌, ◌%◌, ◌≤◌, ◌<◌}
 use native.Mathlib.Omega.{arith}
 use Rattle.std.proofs.Common.{sum_by}
+use Rattle.std.proofs.lemmas.List.Sums.{sum_by-cons}
 use Rattle.std.proofs.lemmas.List.{map-set, drop-map}
 use lib.ListN.{length, get_or, take, drop, set, length-map, length-append, drop_of_length-le, get_or-map}
 use lib.Seq.{length-take-le, get_or-take, take-set-lt, drop-cons}
@@ -83,7 +84,7 @@ module _ (codes₀ : List WrittenCode) (n₀ : ℕ) (codes : List WrittenCode) (
 pub flat_sum : (codes : List WrittenCode) → length (flatten (map code_of codes)) ≡ sum_by (λ c. length (code_of c)) codes
 unfolding flatten
 flat_sum [] = refl
-flat_sum (c ∷ cs) = length-append (code_of c) (flatten (map code_of cs)) ∙ ap (λ n. length (code_of c) + n) (flat_sum cs)
+flat_sum (c ∷ cs) = length-append (code_of c) (flatten (map code_of cs)) ∙ (ap (λ (n : ℕ). length (code_of c) + n) (flat_sum cs) ∙ sym (sum_by-cons (λ w. length (code_of w)) c cs))
 
 -- the evened codes
 module _ (s : Schedule) (m : ℕ) (e : m ≡ length (flatten (plain_codes s))) where

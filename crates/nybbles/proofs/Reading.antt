@@ -1,21 +1,26 @@
 -- What a code makes of the state and of the reading, and what holds in the reader's loop.
 -- Assumes nothing.
 use mathlib.Core.Path.{◌≡◌, refl, sym, ap, ◌∙◌}
-use mathlib.Core.Bool.{Bool, true, false}
+use mathlib.Core.Bool.{true, false}
 use mathlib.Core.List.{List}
 use Prim.Native.Nat.{ℕ, ◌+◌, ◌*◌, ◌≤◌, ◌<◌, min}
 use native.Mathlib.Omega.{arith}
 use lib.ListN.{length, drop, set, replicate, drop_of_length-le}
 use lib.Dec.{leb}
-use borrow.Author.Tests.{ltb-true, lt-ltb, le-ltb, leb-true, le-leb, lt-leb, eq-eqb, ne_eqb}
-use Rattle.refusals.specs.Refusals.{bad_gap, past_last_month, too_many_leaps}
+use borrow.Author.Tests.{ltb-true, lt-ltb, le-ltb, leb-true, eq-eqb, ne_eqb}
+use Rattle.std.specs.Prelude.{Result, Ok}
+use Rattle.refusals.specs.declared.Refusal.{Refusal}
+use Rattle.refusals.specs.Refusals.{number_of}
+use Rattle.refusals.specs.Answer as answer
 use Rattle.schedule.specs.declared.Sign.{Sign}
-use Rattle.schedule.specs.Schedule.{Schedule, max_gap, last_month, blank_schedule}
+use Rattle.schedule.specs.Schedule.{Schedule, blank_schedule}
 use Rattle.schedule.specs.WordLayout.{word_of_sign}
 use Rattle.schedule.specs.Private.{SoFar}
 use Rattle.calendar.specs.Calendar.{month_start}
 use Rattle.calendar.proofs.Laws.{start_min}
-use Rattle.schedule.specs.Answers.{Reading, refusal, accepted, HandsReading}
+use Rattle.schedule.specs.declared.ParseError.{ParseError}
+use Rattle.schedule.specs.Answers.{Reading, refusal, accepted, ReadsInto}
+use Rattle.schedule.proofs.ByReading.{has_number}
 use Rattle.schedule.proofs.Cases.{by_bool}
 use Rattle.schedule.proofs.SoFar.{so_far_blank, so_far_leap, so_far_end}
 use Rattle.nybbles.specs.declared.code.Mark.{Mark}
@@ -23,28 +28,8 @@ use Rattle.nybbles.specs.declared.code.Mark.TheVariants.{Continues, Leaps, Expir
 use Rattle.nybbles.specs.declared.code.Code.{Code}
 use Rattle.nybbles.specs.declared.progress.Progress.{Progress}
 use Rattle.nybbles.specs.Codes.{nybbles, codes_of}
-use Rattle.nybbles.specs.Read.{State, is_expiry, has_room, fault, marked, after, at_end, read_codes, read_nybbles}
+use Rattle.nybbles.specs.Read.{State, is_expiry, has_room, checks, fault, marked, after, at_end, read_codes, read_nybbles}
 use Rattle.nybbles.specs.Private.{state_of, Passes, Moves, Next}
-
--- the first check that fails
-module _ (st : State) (c : Code) where
-  pub gap_fault : max_gap < st.gap + c.months → bad_gap ≡ fault st c
-  unfolding fault
-  gap_fault a = simp (lt-leb (st.gap + c.months) max_gap a)
-
-  module _ (a : st.gap + c.months ≤ max_gap) where
-    pub total_fault : last_month < st.total + c.months → past_last_month ≡ fault st c
-    unfolding fault
-    total_fault b = simp (le-leb (st.gap + c.months) max_gap a, lt-leb (st.total + c.months) last_month b)
-
-    module _ (b : st.total + c.months ≤ last_month) where
-      pub room_fault : has_room c.mark (length st.schedule.leaps) ≡ false → too_many_leaps ≡ fault st c
-      unfolding fault
-      room_fault d = simp (le-leb (st.gap + c.months) max_gap a, le-leb (st.total + c.months) last_month b, d)
-
-      pub no_fault : has_room c.mark (length st.schedule.leaps) ≡ true → 0 ≡ fault st c
-      unfolding fault
-      no_fault d = simp (le-leb (st.gap + c.months) max_gap a, le-leb (st.total + c.months) last_month b, d)
 
 -- a code that has no fault
 pub passes : (st : State) (c : Code) → fault st c ≡ 0 → Passes st.gap st.total (length st.schedule.leaps) c
@@ -88,6 +73,11 @@ after_total st c = marked_total c.mark _ _ _
 after_gap : (st : State) (c : Code) → (after st c).gap ≤ st.gap + c.months
 unfolding after
 after_gap st c = marked_gap c.mark _ _ _
+
+not_expiry : (m : Mark) → (m ≡ Expires → ⊥) → is_expiry m ≡ false
+not_expiry Continues h = refl
+not_expiry (Leaps k) h = refl
+not_expiry Expires h = absurd (h refl)
 
 -- the reading from a place where a code starts
 abbrev reading : List ℕ → ℕ → State → Reading
@@ -138,32 +128,36 @@ module _ (bytes words : List ℕ) (at : ℕ) (p : Progress) (h : Reads bytes wor
   st : State
   st = state_of p h.so_far
 
-  pub ends_early_lem : length (nybbles bytes) ≤ at → (n place : ℕ) (out : List ℕ) → HandsReading (refusal 1 at) n out place → HandsReading (read_nybbles bytes) n out place
+  pub ends_early_lem : length (nybbles bytes) ≤ at → {r : Result (Unit {0}) ParseError} {out : List ℕ} → ReadsInto (refusal 1 at) r out → ReadsInto (read_nybbles bytes) r out
   unfolding st
-  ends_early_lem l n place out o = rw (h.same ∙ ended bytes at st l) o
+  ends_early_lem l o = rw (h.same ∙ ended bytes at st l) o
 
-  module _ (c : Code) (next : Next bytes at c) (f : ℕ) (q : (s : Schedule) → length s.leaps ≡ p.count → f ≡ fault (state_of p s) c) where
-    found : f ≡ fault st c
-    unfolding st
-    found = q h.so_far h.kept.its_count
-
-    pub refuses : (f ≡ 0 → ⊥) → (n place : ℕ) (out : List ℕ) → HandsReading (refusal f at) n out place → HandsReading (read_nybbles bytes) n out place
-    unfolding st
-    refuses e n place out o =
-        let is : read_nybbles bytes ≡ refusal f at = h.same ∙ (refused bytes at st c next (λ z. e (found ∙ z)) ∙ ap (λ (x : ℕ). refusal x at) (sym found)) in
+  module _ (c : Code) (next : Next bytes at c) where
+    -- a code that is refused
+    pub refuses : (why : Refusal) → ((s : Schedule) → length s.leaps ≡ p.count → answer.refused (number_of why) ≡ checks (state_of p s) c)
+        → {r : Result (Unit {0}) ParseError} {out : List ℕ} → ReadsInto (refusal (number_of why) at) r out → ReadsInto (read_nybbles bytes) r out
+    unfolding st fault
+    refuses why q o =
+        let f : number_of why ≡ fault st c = ap answer.number (q h.so_far h.kept.its_count) in
+        let is : read_nybbles bytes ≡ refusal (number_of why) at
+        = h.same ∙ (refused bytes at st c next (λ z. omega (arith, has_number why)) ∙ ap (λ (n : ℕ). refusal n at) (sym f)) in
         rw is o
 
-    module _ (e : f ≡ 0) where
-      -- the code passes
+    -- a code that passes
+    module _ (q : (s : Schedule) → length s.leaps ≡ p.count → answer.given tt ≡ checks (state_of p s) c) where
+      none : fault st c ≡ 0
+      unfolding st fault
+      none = ap answer.number (sym (q h.so_far h.kept.its_count))
+
       pub passed : Passes p.gap p.total p.count c
       unfolding st
-      passed = rw h.kept.its_count at (passes st c (sym found ∙ e))
+      passed = rw h.kept.its_count at (passes st c none)
 
-      module _ (p' : Progress) (words' : List ℕ) (moves : (s : Schedule) → SoFar s p.count words → Moves p p' words' s c) (x : Bool) (m : x ≡ is_expiry c.mark) where
+      module _ (p' : Progress) (words' : List ℕ) (moves : (s : Schedule) → SoFar s p.count words → Moves p p' words' s c) where
         moved : Moves p p' words' h.so_far c
         moved = moves h.so_far h.kept
 
-        pub reads_on : x ≡ false → Reads bytes words' p' (at + c.size)
+        pub reads_on : (c.mark ≡ Expires → ⊥) → Reads bytes words' p' (at + c.size)
         unfolding st
         reads_on b =
             let a = moved.state in
@@ -177,22 +171,22 @@ module _ (bytes words : List ℕ) (at : ℕ) (p : Progress) (h : Reads bytes wor
               total_fits = omega (arith, passed.total_fits);
               so_far = (after st c).schedule;
               kept = moved.kept;
-              same = h.same ∙ (goes bytes at st c next (sym found ∙ e) (sym m ∙ b) ∙ ap (reading bytes (at + c.size)) (sym a));
+              same = h.same ∙ (goes bytes at st c next none (not_expiry c.mark b) ∙ ap (reading bytes (at + c.size)) (sym a));
             }
 
-        module _ (b : x ≡ true) where
+        module _ (b : c.mark ≡ Expires) where
           last : read_nybbles bytes ≡ at_end (length (nybbles bytes)) (at + c.size) (state_of p' (after st c).schedule)
           unfolding st
-          last = h.same ∙ (ends bytes at st c next (sym found ∙ e) (sym m ∙ b) ∙ ap (at_end (length (nybbles bytes)) (at + c.size)) (sym moved.state))
+          last = h.same ∙ (ends bytes at st c next none (ap is_expiry b) ∙ ap (at_end (length (nybbles bytes)) (at + c.size)) (sym moved.state))
 
-          pub refuses_more : at + c.size < length (nybbles bytes) → (n place : ℕ) (out : List ℕ) → HandsReading (refusal 6 (at + c.size)) n out place
-              → HandsReading (read_nybbles bytes) n out place
-          refuses_more l n place out o =
+          pub refuses_more : at + c.size < length (nybbles bytes) → {r : Result (Unit {0}) ParseError} {out : List ℕ}
+              → ReadsInto (refusal 6 (at + c.size)) r out → ReadsInto (read_nybbles bytes) r out
+          refuses_more l o =
               let is : read_nybbles bytes ≡ refusal 6 (at + c.size) = last ∙ simp (lt-ltb _ _ l) in
               rw is o
 
           pub accepts : length (nybbles bytes) ≤ at + c.size → (day : ℕ) → day ≡ month_start (min p'.total 2400)
-              → HandsReading (read_nybbles bytes) 0 (set (set words' 512 p'.count) 513 day) 0
+              → ReadsInto (read_nybbles bytes) (Ok tt) (set (set words' 512 p'.count) 513 day)
           unfolding st
           accepts l day d =
               let is : read_nybbles bytes ≡ accepted (after st c).schedule (month_start p'.total) = last ∙ simp (le-ltb _ _ l) in

@@ -1,19 +1,18 @@
 -- How much room a nybble list needs. Assumes nothing.
-use mathlib.Core.Path.{◌≡◌, refl, ap, ◌∙◌}
+use mathlib.Core.Path.{◌≡◌, refl, ◌∙◌}
 use mathlib.Core.Bool.{true}
 use mathlib.Core.List.{List, [], ◌∷◌, flatten}
-use Prim.Native.Nat.{ℕ, zero, suc, ◌+◌, ◌*◌, ◌-◌, ◌/◌, ◌%◌, ◌≤◌, ◌<◌}
+use Prim.Native.Nat.{ℕ, zero, suc, ◌+◌, ◌*◌, ◌%◌, ◌≤◌, ◌<◌}
 use native.Mathlib.Omega.{arith}
-use lib.Dec.{leb, eqb}
-use lib.ListN.{length, length-append}
-use borrow.Author.Tests.{lt-ltb, leb-true, le-leb, leb-false, eqb-true, eqb-false}
+use lib.Dec.{eqb}
+use lib.ListN.{length}
+use borrow.Author.Tests.{lt-ltb, le-leb}
 use Rattle.schedule.specs.declared.Sign.TheVariants.{Positive}
 use Rattle.schedule.specs.Schedule.{Leap, Schedule, month_start, expiry_fits, gaps_fit, last_leap, expiry_month, leaves_gap, well_formed}
 use Rattle.schedule.proofs.Cases.{by_bool}
-use Rattle.schedule.proofs.Gaps.{fits_lt, parts}
-use Rattle.schedule.proofs.Rounded.{gaps_to, first_to, later_to, rounded_gaps}
+use Rattle.schedule.proofs.Gaps.{parts}
+use Rattle.schedule.proofs.Rounded.{rounded_gaps}
 use Rattle.calendar.proofs.Laws.{start_lt, start_to, month_most, month_of_start}
-use Rattle.nybbles.specs.Codes.{np_of}
 use Rattle.nybbles.specs.Write.{sixes_in, sixes, gap_codes, codes_from, any_single, padded, evened, plain_codes, spelling, nybbles_of}
 use Rattle.nybbles.proofs.Codes.{All, more}
 use Rattle.nybbles.proofs.Stored.{list_short, list_few}

@@ -5,7 +5,7 @@ use crate::code::Mark;
 use crate::progress::Progress;
 use crate::spell::Spelling;
 use refusals::Refusal;
-use schedule::Writing;
+use schedule::ParseError;
 
 mod code; // code.rt: the codes of a list
 mod pack; // pack.rt: written codes as bytes
@@ -14,15 +14,16 @@ mod spell; // spell.rt: the written codes of a list
 mod written; // written.rt: a written code
 
 ghost use Rattle.std.specs.Prelude.{◌≡◌, length};
+ghost use Rattle.refusals.specs.Answer.{answer_of};
 ghost use Rattle.schedule.specs.WordLayout.{meant};
-ghost use Rattle.schedule.specs.Answers.{writing, written, HandsReading};
+ghost use Rattle.schedule.specs.Answers.{writing, written, ReadsInto};
 ghost use Rattle.nybbles.specs.Read.{read_nybbles};
 ghost use Rattle.nybbles.specs.Write.{nybbles_of};
 
 // Reads a nybble list into the words of its schedule; any bytes may be given. One pass, code by code: each code that passes has a month at
 // least, so a list of any length is decided by its 2,401st code.
-pub fn read_nybbles(bytes: &[u8], out: &mut [u32; 514], place: &mut u64) -> u8
-    ensures { HandsReading (read_nybbles bytes.now) result out.new place.new }
+pub fn read_nybbles(bytes: &[u8], out: &mut [u32; 514]) -> Result<(), ParseError>
+    ensures { ReadsInto (read_nybbles bytes.now) result out.new }
 {
     *out = [0u32; 514];
     let mut p = Progress {
@@ -33,40 +34,33 @@ pub fn read_nybbles(bytes: &[u8], out: &mut [u32; 514], place: &mut u64) -> u8
     let mut at: usize = 0;
     while at / 2 < bytes.len() {
         let c = code::code_at(bytes, at);
-        if let Err(refusal) = p.check(c) {
-            return schedule::hand_refusal(refusal.number(), at, out, place);
+        if let Err(why) = p.check(c) {
+            return schedule::refuse(why, at, out);
         }
         at += c.size;
         p = p.after(c, out);
-        if matches!(c.mark, Mark::Expires) {
+        if let Mark::Expires = c.mark {
             if at / 2 < bytes.len() {
-                return schedule::hand_refusal(Refusal::AfterEnd.number(), at, out, place);
+                return schedule::refuse(Refusal::AfterEnd, at, out);
             }
             out[512] = p.count as u32;
             out[513] = schedule::expiry_at(p.total);
-            *place = 0;
-            return 0;
+            return Ok(());
         }
     }
-    schedule::hand_refusal(Refusal::EndsEarly.number(), at, out, place)
+    schedule::refuse(Refusal::EndsEarly, at, out)
 }
 
-// Writes the nybble list of a list's words, in its one spelling; any words and any output may be given.
-pub fn write_nybbles(words: &[u32; 514], out: &mut [u8]) -> Writing
-    ensures { (result ≡ writing (meant words.now) (nybbles_of (meant words.now)) (length out.old)) × (out.new ≡ written (meant words.now) (nybbles_of (meant words.now)) out.old) }
+// Writes the nybble list of a list's words, in its one spelling, and returns its length; any words and any output may be given.
+pub fn write_nybbles(words: &[u32; 514], out: &mut [u8]) -> Result<usize, Refusal>
+    ensures { (answer_of result ≡ writing (meant words.now) (nybbles_of (meant words.now)) (length out.old)) × (out.new ≡ written (meant words.now) (nybbles_of (meant words.now)) out.old) }
 {
-    let number = schedule::unwritable(words);
-    if number != 0 {
-        return Writing { number, count: 0 };
-    }
-    let spelling = Spelling::of(words);
+    let list = schedule::writable(words)?;
+    let spelling = Spelling::of(list);
     let count = spelling.nybble_count() / 2;
     if out.len() < count {
-        return Writing {
-            number: Refusal::OutputShort.number(),
-            count: 0,
-        };
+        return Err(Refusal::OutputShort);
     }
     pack::put_codes(spelling.codes(), out);
-    Writing { number: 0, count }
+    Ok(count)
 }

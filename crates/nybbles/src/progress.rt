@@ -54,7 +54,7 @@ impl Progress {
         let count = self.count;
         if let Mark::Leaps(sign) = c.mark {
             words[2 * count] = total;
-            words[2 * count + 1] = schedule::word_of_sign(sign);
+            words[2 * count + 1] = u32::from(sign);
             return Progress {
                 gap: 0,
                 total,

@@ -1,7 +1,7 @@
 // The written codes of a list, in its one spelling.
 ghost use Rattle.std.specs.Prelude.{◌≡◌, true, ℕ, ◌+◌, ◌≤◌, ◌<◌, List, [], ◌∷◌, ◌++◌, length, take};
 ghost use mathlib.Core.List.{map, flatten};
-ghost use Rattle.schedule.specs.Schedule.{leaves_gap, well_formed, max_gap};
+ghost use Rattle.schedule.specs.Schedule.{leaves_gap, max_gap};
 ghost use Rattle.schedule.specs.WordLayout.{meant};
 ghost use Rattle.nybbles.specs.Codes.{np_of_mark};
 ghost use Rattle.nybbles.specs.Write.{sixes, gap_codes, plain_codes, padded, spelling};
@@ -9,6 +9,7 @@ ghost use Rattle.nybbles.specs.Private.{max_codes, code_of};
 
 use crate::code::Mark;
 use crate::written::WrittenCode;
+use schedule::List;
 use std::marker::Model;
 
 // No list has more written codes: a gap of g months has at most (g + 15) / 16 of them, and there are at most 257 gaps, of 2400 months.
@@ -79,20 +80,18 @@ impl Spelling {
     }
 
     // The codes of a list, not evened yet.
-    fn plain(words: &[u32; 514]) -> Spelling
-        requires { (well_formed (meant words.now) ≡ true) × (leaves_gap (meant words.now) ≡ true) }
-        ensures { result ≡ plain_codes (meant words.now) }
+    fn plain(list: List<'_>) -> Spelling
+        requires { leaves_gap (meant list.words.now) ≡ true }
+        ensures { result ≡ plain_codes (meant list.entry.words.now) }
     {
         let mut spelling = Spelling::empty();
-        let end = schedule::expiry_month(words);
         let mut last: u32 = 0;
-        for i in 0..schedule::count_of(words) {
-            let month = schedule::month_at(words, i);
-            let sign = schedule::sign_at(words, i);
-            spelling.push_gap(Mark::Leaps(sign), month - last);
+        for i in 0..list.count() {
+            let month = list.month(i);
+            spelling.push_gap(Mark::Leaps(list.sign(i)), month - last);
             last = month;
         }
-        spelling.push_gap(Mark::Expires, end - last);
+        spelling.push_gap(Mark::Expires, list.expiry_month() - last);
         spelling
     }
 
@@ -122,11 +121,11 @@ impl Spelling {
     }
 
     // The codes of a list.
-    pub(crate) fn of(words: &[u32; 514]) -> Spelling
-        requires { (well_formed (meant words.now) ≡ true) × (leaves_gap (meant words.now) ≡ true) }
-        ensures { result ≡ spelling (meant words.now) }
+    pub(crate) fn of(list: List<'_>) -> Spelling
+        requires { leaves_gap (meant list.words.now) ≡ true }
+        ensures { result ≡ spelling (meant list.entry.words.now) }
     {
-        let mut spelling = Spelling::plain(words);
+        let mut spelling = Spelling::plain(list);
         if spelling.nybble_count() % 2 == 1 {
             spelling.pad();
         }

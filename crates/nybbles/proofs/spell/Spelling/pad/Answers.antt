@@ -1,5 +1,5 @@
 -- `Spelling::pad` meets its contract. The loop's invariant: no single nybble from here on. Assumes nothing.
-use mathlib.Core.Path.{sym, ap, ◌∙◌}
+use mathlib.Core.Path.{ap, ◌∙◌}
 use native.Mathlib.Omega.{arith}
 use lib.ListN.{length-set}
 use Rattle.nybbles.specs.Write.{padded}

@@ -1,5 +1,5 @@
 -- `Spelling::push_gap` meets its contract: one answer for each kind of gap. Assumes nothing.
-use mathlib.Core.Path.{ap, ◌∙◌}
+use mathlib.Core.Path.{ap}
 use native.Mathlib.Omega.{arith}
 use lib.ListN.{length, length-append}
 use Rattle.nybbles.specs.Codes.{np_of_mark}
