@@ -8,7 +8,8 @@ use Rattle.calendar.specs.Calendar.{first_day, end_day, month_start, month_of, I
 use Rattle.calendar.proofs.Laws.{start_zero, start_from, start_le, in_month}
 use Rattle.schedule.specs.declared.Sign.{Sign}
 use Rattle.schedule.specs.declared.Sign.TheVariants.{Positive, Negative}
-use Rattle.schedule.specs.Schedule.{Leap, Schedule, no_leap, gaps_fit, well_formed}
+use Rattle.schedule.specs.declared.Leap.{Leap}
+use Rattle.schedule.specs.Schedule.{Schedule, no_leap, gaps_fit, well_formed}
 use Rattle.questions.specs.declared.by_day.Day.{Day}
 use Rattle.clock.specs.declared.Ending.TheVariants.{Ordinary}
 use Rattle.clock.specs.Days.{first_dtai, ending_of, ending}
