@@ -3,7 +3,8 @@
 use Rattle.std.specs.Prelude.{◌≡◌, ℕ, ◌+◌, ◌<◌, ◌≤◌, cond, List, [], ◌∷◌, length, get_or, take}
 use Rattle.schedule.specs.declared.Sign.{Sign}
 use Rattle.schedule.specs.declared.Sign.TheVariants.{Negative}
-use Rattle.schedule.specs.Schedule.{Leap, no_leap}
+use Rattle.schedule.specs.declared.Leap.{Leap}
+use Rattle.schedule.specs.Schedule.{no_leap}
 use Rattle.schedule.specs.Extends.{same_sign}
 
 -- of leaps in their order the first n lie at a month or before it, and the next one after it
