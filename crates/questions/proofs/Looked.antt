@@ -1,6 +1,6 @@
 -- A look at leaps in their order by the month of a day: the search from the last leap back, and what it tells of the day.
 -- Assumes nothing.
-use Rattle.std.proofs.Common.{◌≡◌, ℕ, ◌+◌, ◌-◌, ◌<◌, ◌≤◌, true, List, length, get_or, take, sym, ap, ◌∙◌, ap₂, ⊎_elim, eq-or-lt_of_le, arith, length-take-le}
+use Rattle.std.proofs.Common.{◌≡◌, ℕ, ◌+◌, ◌-◌, ◌<◌, ◌≤◌, true, List, length, get_or, take, sym, ap, ◌∙◌, refl, ap₂, ⊎_elim, eq-or-lt_of_le, arith, length-take-le}
 use native.Mathlib.Decide.{dec_lt}
 use Rattle.std.proofs.lemmas.List.{get_or_past}
 use lib.IntN.{sub_ℕ}
@@ -10,6 +10,7 @@ use Rattle.schedule.specs.declared.Sign.{Sign}
 use Rattle.schedule.specs.declared.Sign.TheVariants.{Positive, Negative}
 use Rattle.schedule.specs.declared.Leap.{Leap}
 use Rattle.schedule.specs.Schedule.{Schedule, no_leap, gaps_fit, well_formed}
+use Rattle.schedule.specs.WordLayout.{word_of_sign}
 use Rattle.questions.specs.declared.by_day.Day.{Day}
 use Rattle.clock.specs.declared.Ending.TheVariants.{Ordinary}
 use Rattle.clock.specs.Days.{first_dtai, ending_of, ending}
@@ -24,6 +25,14 @@ use Rattle.questions.proofs.Signs.{of_sign_next, one_sign, both_signs, dtai_plac
 pub record Beyond (ls : List Leap) (month n : ℕ) : Type 0 where
   pub room : n ≤ length ls
   pub after : (i : ℕ) → n ≤ i → i < length ls → month < leap_month ls i
+
+pub beyond_one : {ls : List Leap} {month n : ℕ} → Beyond ls month n → (before : ℕ) → before + 1 ≡ n → month < leap_month ls before → Beyond ls month before
+beyond_one {ls} {month} {n} p before e l =
+    record {
+      room = omega (arith, p.room);
+      after = λ i a b.
+          ⊎_elim (λ (z : before ≡ i). rw (← z) l) (λ (k : before < i). p.after i (omega arith) b) (eq-or-lt_of_le a);
+    }
 
 -- it ends at a leap that lies at the month or before it
 pub beyond_found : {ls : List Leap} {month n : ℕ} → Beyond ls month n → (expiry : ℕ) → gaps_fit 0 ls expiry ≡ true
@@ -40,12 +49,17 @@ beyond_found {ls} {month} {n} p expiry f before e l =
     }
 
 -- one leap more
-pub lowered_one : {ls : List Leap} {n down : ℕ} → Lowered ls n down → n < length ls → (sign : Sign) → (get_or ls n no_leap).sign ≡ sign
-    → (r : ℕ) → r ≡ one_of Negative sign → Lowered ls (n + 1) (down + r)
-lowered_one {ls} {n} {down} p h sign e r f =
+negative : (sign : Sign) → word_of_sign sign ≡ one_of Negative sign
+negative Positive = refl
+negative Negative = refl
+
+pub lowered_one : {ls : List Leap} {n down : ℕ} → Lowered ls n down → n < length ls → (word : ℕ) → word ≡ word_of_sign (get_or ls n no_leap).sign
+    → Lowered ls (n + 1) (down + word)
+lowered_one {ls} {n} {down} p h word e =
+    let own = negative (get_or ls n no_leap).sign in
     record {
-      sum = omega (arith, p.sum, f, of_sign_next Negative ls n h, ap (λ x. one_of Negative x) e);
-      few = omega (arith, p.few, f, one_sign sign);
+      sum = omega (arith, p.sum, e, own, of_sign_next Negative ls n h);
+      few = omega (arith, p.few, e, own, one_sign (get_or ls n no_leap).sign);
     }
 
 module _ (s : Schedule) (w : well_formed s ≡ true) (day month n : ℕ) (p : ByMonth s.leaps month n) (i : InMonth day month) where

@@ -21,26 +21,27 @@ fn ending_of(sign: Sign) -> Ending
     }
 }
 
-// How many leaps of a list lie at a month or before it. The last ones are looked at first, since most days asked about are late.
+// How many leaps of a list lie at a month or before it. The last ones are looked at first, since most days asked about are late. Here and in
+// `lowered` the leaps are read from the words, not by the list's methods, which took a fifth more time for the whole question.
 fn leaps_by(list: List<'_>, month: u32) -> usize
     ensures { ByMonth (meant list.entry.words.now).leaps month result }
 {
     for before in (0..list.count()).rev() {
-        if list.month(before) <= month {
+        if list.words[2 * before] <= month {
             return before + 1;
         }
     }
     0
 }
 
-// How many of the first n leaps of a list are negative.
+// How many of the first n leaps of a list are negative: those have the sign word 1, the others 0.
 fn lowered(list: List<'_>, n: usize) -> u32
     requires { n ≤ length (meant list.words.now).leaps }
     ensures { Lowered (meant list.entry.words.now).leaps n result }
 {
     let mut down: u32 = 0;
     for i in 0..n {
-        down += u32::from(list.sign(i) == Sign::Negative);
+        down += list.words[2 * i + 1];
     }
     down
 }

@@ -1,20 +1,19 @@
 -- `questions::look::lowered` meets its contract. Assumes nothing.
-use Rattle.std.proofs.Common.{◌≡◌, refl, ap, ◌∙◌, sym, arith}
-use mir.Val.{bool_byte}
-use denote.Enum.Bare.{sameb}
-use Rattle.schedule.specs.declared.Sign.{Sign}
-use Rattle.schedule.specs.declared.Sign.TheVariants.{Positive, Negative}
-use Rattle.schedule.specs.contracts.Sign.{the_type}
-use Rattle.questions.specs.Private.{one_of}
+use Rattle.std.proofs.Common.{arith}
+use Rattle.schedule.proofs.Meant.{count_is, count_room, sign_word, sign_fits}
 use Rattle.questions.proofs.Looked.{lowered_one}
 use Rattle.questions.proofs.look.lowered.Goals as goal
 
--- 1 for a negative leap
-negative : (sign : Sign) → bool_byte (sameb the_type sign Negative) ≡ one_of Negative sign
-negative Positive = refl
-negative Negative = refl
+pub overflow_add-down-in-loop-i : goal.overflow_add-down-in-loop-i
+overflow_add-down-in-loop-i c =
+    let words = c.args.list.words.now in
+    let w = c.args.list.formed in
+    let n = count_is words w in
+    omega (arith, c.loop-i.invariant.few, c.loop-i-test.true, c.requires, count_room words w, sign_fits words w c.loop-i.i (omega (arith, n, c.loop-i-test.true, c.requires)))
 
 pub loop-i-preserved : goal.loop-i-preserved
 loop-i-preserved c =
-    lowered_one c.loop-i.invariant (omega (arith, c.loop-i-test.true, c.requires)) c.sign.result (sym c.sign.ensures)
-    _ (c.from-down.ensures ∙ ap bool_byte c.eq.ensures ∙ negative c.sign.result)
+    let words = c.args.list.words.now in
+    let w = c.args.list.formed in
+    let n = count_is words w in
+    lowered_one c.loop-i.invariant (omega (arith, c.loop-i-test.true, c.requires)) _ (sign_word words w c.loop-i.i (omega (arith, n, c.loop-i-test.true, c.requires)))
