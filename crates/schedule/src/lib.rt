@@ -164,7 +164,7 @@ pub fn is_expired(expiry: u32, month: u32) -> bool
 }
 
 // Whether a list goes on from another: it has the other's leaps first, and then, at the other's expiry or after it, its own.
-fn goes_on(longer: List<'_>, shorter: List<'_>) -> bool
+pub fn goes_on(longer: List<'_>, shorter: List<'_>) -> bool
     ensures { result ≡ extends (meant longer.entry.words.now) (meant shorter.entry.words.now) }
 {
     let expiry = shorter.expiry();
