@@ -40,8 +40,10 @@ impl<'a> Output<'a> {
     pub fn put_all(&mut self, bytes: &[u8])
         ensures { Puts self.old self.new bytes.now }
     {
-        for b in bytes {
-            self.put(*b);
+        if self.at < self.bytes.len() {
+            let n = bytes.len().min(self.bytes.len() - self.at);
+            self.bytes[self.at..self.at + n].copy_from_slice(&bytes[..n]);
+            self.at += n;
         }
     }
 }
