@@ -175,6 +175,9 @@ then_byte p q e f = rw (f, ← e) (both p q)
 pub two_bytes : {out out' out'' : Output} {b c x y : ℕ} → Puts out out' (b ∷ []) → b ≡ x → Puts out' out'' (c ∷ []) → c ≡ y → Puts out out'' (x ∷ y ∷ [])
 two_bytes p e q f = rw (← e, ← f) (both p q)
 
+pub both_bytes : {out out' : Output} {b c x y : ℕ} → Puts out out' (b ∷ c ∷ []) → b ≡ x → c ≡ y → Puts out out' (x ∷ y ∷ [])
+both_bytes p e f = rw (← e, ← f) p
+
 -- a byte whose halves are x and y
 pub put_pair_of : {out out' : Output} {a b x y : ℕ} → Puts out out' ((a * 16 + b) ∷ []) → a ≡ x → b ≡ y → Puts out out' ((x * 16 + y) ∷ [])
 put_pair_of p e f = rw (← e, ← f) p
