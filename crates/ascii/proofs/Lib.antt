@@ -11,3 +11,4 @@ pub mod Halves
 pub mod Splitting
 pub mod Fields
 pub mod Unbroken
+pub mod Names

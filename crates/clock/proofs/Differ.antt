@@ -13,7 +13,8 @@ use Rattle.calendar.specs.Calendar.{first_day, month_start}
 use Rattle.calendar.proofs.Laws.{start_zero, start_lt}
 use Rattle.schedule.specs.declared.Sign.{Sign}
 use Rattle.schedule.specs.declared.Sign.TheVariants.{Positive, Negative}
-use Rattle.schedule.specs.Schedule.{Leap, Schedule, gaps_fit, well_formed}
+use Rattle.schedule.specs.declared.Leap.{Leap}
+use Rattle.schedule.specs.Schedule.{Schedule, gaps_fit, well_formed}
 use Rattle.schedule.specs.Extends.{same_sign, below, Extends}
 use Rattle.schedule.proofs.Gaps.{fits_lt, first, later, before_end, parts}
 use Rattle.schedule.proofs.Expired.{is_expired_lem, not_expired}

@@ -12,7 +12,8 @@ use Rattle.calendar.specs.Calendar.{month_start, starts_month}
 use Rattle.calendar.proofs.Laws.{start_lt, no_start}
 use Rattle.schedule.specs.declared.Sign.{Sign}
 use Rattle.schedule.specs.declared.Sign.TheVariants.{Positive, Negative}
-use Rattle.schedule.specs.Schedule.{Leap, end_day, is_expired, gaps_fit}
+use Rattle.schedule.specs.declared.Leap.{Leap}
+use Rattle.schedule.specs.Schedule.{end_day, is_expired, gaps_fit}
 use Rattle.schedule.specs.Extends.{same_sign, below}
 use Rattle.schedule.proofs.Gaps.{fits_lt, first, later, before_end}
 use Rattle.schedule.proofs.WordLayout.{within}

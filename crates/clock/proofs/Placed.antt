@@ -12,7 +12,8 @@ use lib.ListN.{length, get_or}
 use borrow.Author.Tests.{ne_eqb, eq-eqb}
 use Rattle.calendar.specs.Calendar.{month_start}
 use Rattle.calendar.proofs.Laws.{start_lt}
-use Rattle.schedule.specs.Schedule.{Leap, Schedule, no_leap, gaps_fit, well_formed}
+use Rattle.schedule.specs.declared.Leap.{Leap}
+use Rattle.schedule.specs.Schedule.{Schedule, no_leap, gaps_fit, well_formed}
 use Rattle.schedule.proofs.Gaps.{fits_lt, first, later, parts}
 use Rattle.clock.specs.declared.Ending.TheVariants.{Ordinary}
 use Rattle.clock.specs.Days.{ending_of, ending_before, ending}

@@ -11,7 +11,8 @@ use Rattle.calendar.specs.Calendar.{first_day, end_day, month_start}
 use Rattle.calendar.proofs.Laws.{start_zero}
 use Rattle.schedule.specs.declared.Sign.{Sign}
 use Rattle.schedule.specs.declared.Sign.TheVariants.{Positive, Negative}
-use Rattle.schedule.specs.Schedule.{Leap, Schedule, max_leaps, well_formed}
+use Rattle.schedule.specs.declared.Leap.{Leap}
+use Rattle.schedule.specs.Schedule.{Schedule, max_leaps, well_formed}
 use Rattle.schedule.specs.Extends.{same_sign}
 use Rattle.schedule.proofs.Gaps.{parts, before_end}
 use Rattle.clock.specs.declared.Ending.{Ending}

@@ -13,7 +13,8 @@ use borrow.Author.Tests.{ltb-true, ltb-false, lt-ltb, le-ltb}
 use Rattle.calendar.specs.Calendar.{first_day}
 use Rattle.schedule.specs.declared.Sign.{Sign}
 use Rattle.schedule.specs.declared.Sign.TheVariants.{Positive, Negative}
-use Rattle.schedule.specs.Schedule.{Leap, Schedule}
+use Rattle.schedule.specs.declared.Leap.{Leap}
+use Rattle.schedule.specs.Schedule.{Schedule}
 use Rattle.schedule.specs.Extends.{same_sign}
 use Rattle.clock.specs.Days.{micros_per_second, micros_per_day, first_dtai, in_effect, second_of, leap_seconds, dtai, natural, tai_with, tai}
 use Rattle.clock.proofs.Tally.{count, tally}

@@ -4,7 +4,7 @@ use mathlib.Core.Bool.{Bool, cond, ◌&&◌}
 use mathlib.Core.List.{List, [], ◌∷◌}
 use Prim.Native.Nat.{ℕ, ◌+◌}
 use Rattle.schedule.specs.declared.Sign.{Sign}
-use Rattle.schedule.specs.Schedule.{Leap}
+use Rattle.schedule.specs.declared.Leap.{Leap}
 use Rattle.schedule.specs.Extends.{same_sign}
 use Rattle.clock.specs.Days.{in_effect}
 

@@ -10,7 +10,8 @@ use lib.Dec.{eqb}
 use lib.ListN.{length, get_or}
 use borrow.Author.Tests.{eqb-true, eqb-false, eq-eqb, ne_eqb}
 use Rattle.ascii.specs.Ascii.{zero_byte}
-use Rattle.schedule.specs.Schedule.{Leap, Schedule, no_leap, gaps_fit, well_formed}
+use Rattle.schedule.specs.declared.Leap.{Leap}
+use Rattle.schedule.specs.Schedule.{Schedule, no_leap, gaps_fit, well_formed}
 use Rattle.schedule.proofs.Cases.{by_bool}
 use Rattle.schedule.proofs.Gaps.{fits_lt, first, later, parts}
 use Rattle.text.specs.Bytes.{end_byte}

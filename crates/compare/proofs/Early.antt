@@ -9,7 +9,8 @@ use native.Mathlib.Nat.{zero-add, suc-add}
 use native.Mathlib.Omega.{arith}
 use lib.Dec.{ltb}
 use borrow.Author.Tests.{ltb-true, ne_eqb}
-use Rattle.schedule.specs.Schedule.{Leap, Schedule}
+use Rattle.schedule.specs.declared.Leap.{Leap}
+use Rattle.schedule.specs.Schedule.{Schedule}
 use Rattle.compare.specs.Longer.{about_both}
 use Rattle.compare.specs.Compare.{Line, has_leap, line_at, month_lines, expiry_lines, relation, lines_of}
 use Rattle.compare.proofs.TwoTexts.{read_as, first_refused, second_refused, both_taken, by_texts}

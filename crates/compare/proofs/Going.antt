@@ -12,7 +12,8 @@ use Rattle.ascii.specs.Ascii.{zero_byte}
 use Rattle.ascii.specs.Output.{PutsUpTo}
 use Rattle.ascii.proofs.LeftUpTo.{LeftUpTo, none_yet, more, all}
 use Rattle.ascii.specs.Lines.{between}
-use Rattle.schedule.specs.Schedule.{Leap, Schedule, gaps_fit, well_formed}
+use Rattle.schedule.specs.declared.Leap.{Leap}
+use Rattle.schedule.specs.Schedule.{Schedule, gaps_fit, well_formed}
 use Rattle.schedule.proofs.WordLayout.{within}
 use Rattle.schedule.proofs.Cases.{by_bool}
 use Rattle.schedule.proofs.Gaps.{later, before_end, parts}

@@ -11,7 +11,8 @@ use borrow.Author.Tests.{ne_eqb, eq-eqb, eqb-false}
 use Rattle.ascii.specs.Ascii.{zero_byte}
 use Rattle.schedule.specs.declared.Sign.{Sign}
 use Rattle.schedule.specs.declared.Sign.TheVariants.{Positive, Negative}
-use Rattle.schedule.specs.Schedule.{Leap, Schedule, month_start, gaps_fit}
+use Rattle.schedule.specs.declared.Leap.{Leap}
+use Rattle.schedule.specs.Schedule.{Schedule, month_start, gaps_fit}
 use Rattle.schedule.proofs.Cases.{by_bool}
 use Rattle.schedule.proofs.Expired.{is_expired_lem, expired_from}
 use Rattle.schedule.proofs.Gaps.{fits_lt, first, later}

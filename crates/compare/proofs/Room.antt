@@ -13,7 +13,8 @@ use Rattle.ascii.specs.Ascii.{zero_byte}
 use Rattle.ascii.specs.Decimal.{decimal}
 use Rattle.ascii.proofs.Digits.{decimal_short}
 use Rattle.ascii.specs.Lines.{newline, space_byte, between}
-use Rattle.schedule.specs.Schedule.{Leap, Schedule, gaps_fit, well_formed}
+use Rattle.schedule.specs.declared.Leap.{Leap}
+use Rattle.schedule.specs.Schedule.{Schedule, gaps_fit, well_formed}
 use Rattle.schedule.specs.Extends.{extends}
 use Rattle.schedule.proofs.Cases.{by_bool}
 use Rattle.schedule.proofs.Gaps.{fits_le, first, parts}

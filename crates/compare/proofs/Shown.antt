@@ -16,7 +16,8 @@ use Rattle.ascii.proofs.Fields.{has_no}
 use Rattle.ascii.proofs.Unbroken.{Unbroken, empty, more, append, in_decimal, first_part_lem}
 use Rattle.schedule.specs.declared.Sign.{Sign}
 use Rattle.schedule.specs.declared.Sign.TheVariants.{Positive, Negative}
-use Rattle.schedule.specs.Schedule.{Leap, Schedule, well_formed}
+use Rattle.schedule.specs.declared.Leap.{Leap}
+use Rattle.schedule.specs.Schedule.{Schedule, well_formed}
 use Rattle.schedule.specs.Extends.{extends}
 use Rattle.schedule.proofs.Cases.{by_bool}
 use Rattle.text.specs.Bytes.{sign_byte}

@@ -9,7 +9,8 @@ use native.Mathlib.Omega.{arith}
 use lib.Dec.{eqb}
 use borrow.Author.Tests.{eq-eqb, ne_eqb, eqb-true}
 use Rattle.calendar.proofs.Laws.{start_lt}
-use Rattle.schedule.specs.Schedule.{Leap, Schedule, month_start, is_expired, gaps_fit, well_formed}
+use Rattle.schedule.specs.declared.Leap.{Leap}
+use Rattle.schedule.specs.Schedule.{Schedule, month_start, is_expired, gaps_fit, well_formed}
 use Rattle.schedule.specs.Extends.{below, Extends}
 use Rattle.schedule.proofs.Cases.{by_bool}
 use Rattle.schedule.proofs.Expired.{not_expired, expired_from}

@@ -5,7 +5,8 @@ use Rattle.ascii.specs.Ascii.{ascii, zero_byte}
 use Rattle.ascii.specs.Decimal.{decimal}
 use Rattle.ascii.specs.Lines.{newline, space_byte, between}
 use Rattle.schedule.specs.declared.Writing.{Writing}
-use Rattle.schedule.specs.Schedule.{Leap, Schedule, last_month, is_expired}
+use Rattle.schedule.specs.declared.Leap.{Leap}
+use Rattle.schedule.specs.Schedule.{Schedule, last_month, is_expired}
 use Rattle.schedule.specs.Answers.{unwritten, fitting, fitted}
 use Rattle.schedule.specs.Extends.{extends}
 use Rattle.text.specs.Bytes.{sign_byte, end_byte}

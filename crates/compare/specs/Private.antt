@@ -4,7 +4,8 @@ use Rattle.std.specs.Prelude.{ℕ, zero, suc, ◌+◌, ◌-◌, ◌≡◌, Bool,
 use Rattle.ascii.specs.Ascii.{ascii, zero_byte}
 use Rattle.ascii.specs.Decimal.{decimal}
 use Rattle.ascii.specs.Lines.{space_byte, between}
-use Rattle.schedule.specs.Schedule.{Leap, Schedule, last_month, month_of}
+use Rattle.schedule.specs.declared.Leap.{Leap}
+use Rattle.schedule.specs.Schedule.{Schedule, last_month, month_of}
 use Rattle.schedule.specs.WordLayout.{meant}
 use Rattle.schedule.specs.Extends.{extends}
 use Rattle.text.specs.Bytes.{sign_byte, end_byte}

@@ -1,10 +1,10 @@
 -- The words of a question line, and what is answered where a line is no question.
 -- Assumes nothing: these are definitions.
-use Rattle.std.specs.Prelude.{ℕ, cond, List, ◌++◌}
+use Rattle.std.specs.Prelude.{ℕ, cond, List, ◌++◌, Option, Some, None}
 use Rattle.ascii.specs.Ascii.{ascii}
 use Rattle.ascii.specs.Parts.{same}
 use Rattle.line.specs.declared.words.Word.{Word}
-use Rattle.line.specs.declared.words.Word.TheVariants.{Show, Nybbles, Text, Dtai, Tai, Utc, Uts, Unsmooth, Compare, Longer, Other}
+use Rattle.line.specs.declared.words.Word.TheVariants.{Show, Nybbles, Text, Dtai, Tai, Utc, Uts, Unsmooth, Compare, Longer}
 use Rattle.line.specs.declared.words.Form.{Form}
 use Rattle.line.specs.declared.words.Form.TheVariants as form
 use Rattle.line.specs.declared.words.ListWord.TheVariants as list
@@ -12,20 +12,20 @@ use Rattle.line.specs.declared.words.NumberWord.TheVariants as number
 use Rattle.line.specs.declared.words.TimeWord.TheVariants as time
 use Rattle.line.specs.declared.words.PairWord.TheVariants as pair
 
--- the word that a field is
-unfoldable pub word_of : List ℕ → Word
+-- the word that a field is, if it is one
+unfoldable pub word_of : List ℕ → Option Word
 word_of field =
-    cond (same field (ascii "show")) Show
-    (cond (same field (ascii "nybbles")) Nybbles
-    (cond (same field (ascii "text")) Text
-    (cond (same field (ascii "dtai")) Dtai
-    (cond (same field (ascii "tai")) Tai
-    (cond (same field (ascii "utc")) Utc
-    (cond (same field (ascii "uts")) Uts
-    (cond (same field (ascii "unsmooth")) Unsmooth
-    (cond (same field (ascii "compare")) Compare
-    (cond (same field (ascii "longer")) Longer
-    Other)))))))))
+    cond (same field (ascii "show")) (Some Show)
+    (cond (same field (ascii "nybbles")) (Some Nybbles)
+    (cond (same field (ascii "text")) (Some Text)
+    (cond (same field (ascii "dtai")) (Some Dtai)
+    (cond (same field (ascii "tai")) (Some Tai)
+    (cond (same field (ascii "utc")) (Some Utc)
+    (cond (same field (ascii "uts")) (Some Uts)
+    (cond (same field (ascii "unsmooth")) (Some Unsmooth)
+    (cond (same field (ascii "compare")) (Some Compare)
+    (cond (same field (ascii "longer")) (Some Longer)
+    None)))))))))
 
 -- the fields that a word takes, and which of the words that take them it is
 unfoldable pub form_of : Word → Form
@@ -39,22 +39,21 @@ form_of Uts = form.ListAndTime time.Uts
 form_of Unsmooth = form.ListAndTime time.Unsmooth
 form_of Compare = form.TwoLists pair.Compare
 form_of Longer = form.TwoLists pair.Longer
-form_of Other = form.None
 
 -- how a question goes
-unfoldable pub usage : Word → List ℕ
-usage Show = ascii "show LIST"
-usage Nybbles = ascii "nybbles LIST"
-usage Text = ascii "text HEX"
-usage Dtai = ascii "dtai LIST MJD"
-usage Tai = ascii "tai LIST MJD MICROS"
-usage Utc = ascii "utc LIST TAI"
-usage Uts = ascii "uts LIST MJD MICROS"
-usage Unsmooth = ascii "unsmooth LIST MJD NANOS"
-usage Compare = ascii "compare LIST LIST"
-usage Longer = ascii "longer LIST LIST"
-usage Other = ascii "show, nybbles, text, dtai, tai, utc, uts, unsmooth, compare or longer"
+unfoldable pub usage : Option Word → List ℕ
+usage (Some Show) = ascii "show LIST"
+usage (Some Nybbles) = ascii "nybbles LIST"
+usage (Some Text) = ascii "text HEX"
+usage (Some Dtai) = ascii "dtai LIST MJD"
+usage (Some Tai) = ascii "tai LIST MJD MICROS"
+usage (Some Utc) = ascii "utc LIST TAI"
+usage (Some Uts) = ascii "uts LIST MJD MICROS"
+usage (Some Unsmooth) = ascii "unsmooth LIST MJD NANOS"
+usage (Some Compare) = ascii "compare LIST LIST"
+usage (Some Longer) = ascii "longer LIST LIST"
+usage None = ascii "show, nybbles, text, dtai, tai, utc, uts, unsmooth, compare or longer"
 
 -- the answer to what is no question
-unfoldable pub expected : Word → List ℕ
+unfoldable pub expected : Option Word → List ℕ
 expected w = ascii "? expected: " ++ usage w

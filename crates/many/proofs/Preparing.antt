@@ -15,7 +15,8 @@ use borrow.Author.Tests.{eqb-true, eqb-false}
 use Rattle.calendar.specs.Calendar.{end_day, month_start}
 use Rattle.schedule.specs.declared.Sign.TheVariants.{Positive, Negative}
 use Rattle.schedule.specs.declared.Sign.{Sign}
-use Rattle.schedule.specs.Schedule.{Leap, Schedule, no_leap, well_formed}
+use Rattle.schedule.specs.declared.Leap.{Leap}
+use Rattle.schedule.specs.Schedule.{Schedule, no_leap, well_formed}
 use Rattle.schedule.specs.WordLayout.{expiry_word, word_of_sign, meant}
 use Rattle.schedule.proofs.Cases.{by_bool}
 use Rattle.schedule.proofs.Meant.{count_is, count_room}

@@ -1,6 +1,6 @@
 -- A list leap by leap, as it is looked at where its words stand.
 -- Assumes nothing.
-use Rattle.std.proofs.Common.{◌≡◌, ℕ, ◌+◌, ◌-◌, ◌*◌, ◌<◌, ◌≤◌, min, Bool, true, List, get_or, ◌∙◌, ap₂, arith}
+use Rattle.std.proofs.Common.{◌≡◌, ℕ, ◌+◌, ◌-◌, ◌*◌, ◌<◌, ◌≤◌, min, true, List, get_or, ◌∙◌, ap₂, arith}
 use Rattle.calendar.specs.Calendar.{last_month, end_day}
 use Rattle.schedule.specs.Schedule.{no_leap, well_formed}
 use Rattle.schedule.specs.WordLayout.{count_word, expiry_word, leap_by, meant}
@@ -8,7 +8,6 @@ use Rattle.schedule.proofs.Gaps.{parts}
 use Rattle.schedule.proofs.WordLayout.{small_month, month_in_place, sign_in_place}
 use Rattle.schedule.proofs.Meant.{count_room, expiry_is, leap_at_lem, month_word_lem}
 use Rattle.clock.specs.Known.{last_day}
-use Rattle.questions.specs.Said.{ListFor}
 
 module _ (words : List ℕ) (w : well_formed (meant words) ≡ true) where
   -- the day before the expiry word is the last day of the list
@@ -22,8 +21,3 @@ module _ (words : List ℕ) (w : well_formed (meant words) ≡ true) where
 
   pub month_meant : (i : ℕ) → i < count_word words → get_or words (2 * i) 0 ≤ last_month
   month_meant i h = omega (arith, month_word_lem words w i h, small_month (meant words) w i)
-
--- the list that words are: whether it is one, and its last day by its expiry word
-pub list_meant : (words : List ℕ) {well : Bool} {expiry last : ℕ} → well ≡ well_formed (meant words) → expiry ≡ expiry_word words → last ≡ min (expiry - 1) (end_day - 1)
-    → ListFor (meant words) well last
-list_meant words w e l = record { is_well = w; is_last = λ k. last_meant words k e l }

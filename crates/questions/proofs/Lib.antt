@@ -1,8 +1,7 @@
 -- The laws behind the five questions, one at a time; `many` cites those of words and of what is said of a day.
 pub mod LaidOut
 pub mod Looked
-pub mod Places
-pub mod Told
+pub mod Checked
 pub mod Near
 pub mod Held
 pub mod Exact

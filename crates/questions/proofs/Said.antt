@@ -1,89 +1,81 @@
 -- What is answered by what a schedule says of a day is what the schedule answers.
 -- Assumes nothing.
-use Rattle.std.proofs.Common.{◌≡◌, ℕ, ◌+◌, ◌-◌, ◌*◌, ◌/◌, ◌<◌, ◌≤◌, min, Bool, true, false, cond, ltb, leb, sym, refl, ap, ◌∙◌, ap₂, true≢false, arith, ltb-true, lt-ltb, le-leb, leb-true}
+use Rattle.std.proofs.Common.{◌≡◌, ℕ, ◌+◌, ◌-◌, ◌*◌, ◌/◌, ◌<◌, ◌≤◌, min, true, cond, ltb, leb, sym, refl, ap, ◌∙◌, ap₂, arith, ltb-true, lt-ltb, le-leb, leb-true}
 use Rattle.refusals.specs.Refusals.{before1972, no_instant, not_known, not_well_formed}
 use Rattle.calendar.specs.Calendar.{first_day, end_day}
-use Rattle.schedule.specs.declared.Sign.TheVariants.{Positive, Negative}
 use Rattle.schedule.specs.Schedule.{Schedule, well_formed}
 use Rattle.schedule.proofs.Cases.{by_bool}
 use Rattle.clock.specs.declared.Ending.{Ending}
-use Rattle.clock.specs.Days.{micros_per_second, micros_per_day, first_dtai, long_day, short_day, dtai, ending, day_length, tai}
+use Rattle.clock.specs.Days.{long_day, short_day, dtai, ending, day_length, tai}
 use Rattle.clock.specs.Smoothed.{nanos_per_day, uts, utc_of}
 use Rattle.clock.specs.Known.{last_day, tai_cutoff, uts_cutoff, nanos_cutoff, known_to}
 use Rattle.refusals.specs.Answer.{Answer, given, require}
 use Rattle.clock.specs.Question.{first_tai, Utc, at_date, at_instant, dtai_on, utc_to_tai, tai_to_utc, utc_to_uts, uts_to_utc}
-use Rattle.clock.proofs.Tai.{length_least, last_inside, deleted_few}
-use Rattle.clock.proofs.Tally.{tally}
-use Rattle.clock.proofs.Tallied.{minus_same, dtai_tallied, tai_tallied}
+use Rattle.clock.proofs.Tai.{length_least, last_inside}
 use Rattle.clock.proofs.Uts.{uts_plain}
 use Rattle.clock.proofs.Back.{back_plain}
-use Rattle.refusals.proofs.Checks.{pass, stop, same_check}
+use Rattle.refusals.proofs.Checks.{pass, same_check}
 use Rattle.clock.proofs.Checks.{known_sure, sure_through}
 use Rattle.questions.specs.declared.by_day.Day.{Day}
 use Rattle.questions.specs.Said.{dtai_said, ListFor, DayFor, held, tai_said, dtai_by, tai_by, uts_by, early_uts, micros_by, early_micros, near_day, on_day, from_start, utc_by}
-use Rattle.questions.proofs.Told.{known_on_date, early_as_date, early_utc}
+use Rattle.questions.proofs.Checked.{known_on_date, early_as_date, early_utc}
 use Rattle.questions.proofs.Exact.{held_exact, tai_held}
 use Rattle.questions.proofs.Near.{near_from, near_begun, from_near}
 
 -- ---- the checks
 
-module _ {s : Schedule} {well : Bool} {last : ℕ} (f : ListFor s well last) where
-  same_date : {A : Type 0} (day : ℕ) (v v' : A) → (well_formed s ≡ true → first_day ≤ day → day ≤ last_day s → v ≡ v')
-      → at_date well last day v ≡ at_date (well_formed s) (last_day s) day v'
+module _ {s : Schedule} {last : ℕ} (f : ListFor s last) where
+  same_date : {A : Type 0} (day : ℕ) (v v' : A) → (first_day ≤ day → day ≤ last_day s → v ≡ v')
+      → at_date true last day v ≡ at_date (well_formed s) (last_day s) day v'
   same_date day v v' e =
-      same_check (well_formed s) not_well_formed f.is_well λ w.
+      same_check (well_formed s) not_well_formed (sym f.well) λ _.
       same_check (leb first_day day) before1972 refl λ p.
-      same_check (leb day (last_day s)) not_known (ap (λ Z. leb day Z) (f.is_last w)) λ q.
-      ap given (e w (leb-true first_day day p) (leb-true day (last_day s) q))
+      same_check (leb day (last_day s)) not_known (ap (λ Z. leb day Z) f.is_last) λ q.
+      ap given (e (leb-true first_day day p) (leb-true day (last_day s) q))
 
-  same_instant : {A : Type 0} (limit cutoff day t : ℕ) (a a' : Answer A) → (well_formed s ≡ true → first_day ≤ day → day ≤ last_day s → a ≡ a')
-      → at_instant well last limit cutoff day t a ≡ at_instant (well_formed s) (last_day s) limit cutoff day t a'
+  same_instant : {A : Type 0} (limit cutoff day t : ℕ) (a a' : Answer A) → (first_day ≤ day → day ≤ last_day s → a ≡ a')
+      → at_instant true last limit cutoff day t a ≡ at_instant (well_formed s) (last_day s) limit cutoff day t a'
   same_instant limit cutoff day t a a' e =
-      same_check (well_formed s) not_well_formed f.is_well λ w.
+      same_check (well_formed s) not_well_formed (sym f.well) λ _.
       same_check (leb first_day day) before1972 refl λ p.
       same_check (ltb t limit) no_instant refl λ _.
-      same_check (known_to (last_day s) cutoff day t) not_known (ap (λ Z. known_to Z cutoff day t) (f.is_last w)) λ q.
-      e w (leb-true first_day day p) (sure_through (known_sure (last_day s) cutoff day t q))
+      same_check (known_to (last_day s) cutoff day t) not_known (ap (λ Z. known_to Z cutoff day t) f.is_last) λ q.
+      e (leb-true first_day day p) (sure_through (known_sure (last_day s) cutoff day t q))
 
 -- ---- the questions, by what is said of the day
 
 module _ {s : Schedule} {day : ℕ} {k : Day} (f : DayFor s day k) where
   pub dtai_said_lem : dtai_by k day ≡ dtai_on s day
-  dtai_said_lem = same_date f.list day (dtai_said k) (dtai s day) (λ w p q. (f.is w p q).offset)
+  dtai_said_lem = same_date f.list day (dtai_said k) (dtai s day) (λ p q. (f.is p q).offset)
 
   pub tai_said_lem : (t : ℕ) → tai_by k day t ≡ utc_to_tai s day t
   tai_said_lem t =
-      by_bool (ltb k.last end_day)
-      (λ inside. pass not_well_formed inside
+      -- a list ends within the calendar
+      pass not_well_formed (lt-ltb k.last end_day (omega (arith, f.list.is_last, last_inside s f.list.well)))
       ∙ same_instant f.list long_day tai_cutoff day t _ _
-      (λ w p q.
-      let is = f.is w p q in
+      (λ p q.
+      let is = f.is p q in
       ap (λ (e : Ending). require (ltb t (day_length e)) no_instant (given (tai_said k day t))) is.ends
-      ∙ same_check (ltb t (day_length (ending s day))) no_instant refl (λ _. ap given (tai_held s w day t p k is.offset))))
-      -- a list ends within the calendar, so this is none
-      (λ beyond.
-      let none : well_formed s ≡ false =
-      by_bool (well_formed s) (λ w. absurd (true≢false (sym (lt-ltb k.last end_day (omega (arith, f.list.is_last w, last_inside s w))) ∙ beyond))) (λ n. n) in
-      stop _ not_well_formed beyond ∙ sym (stop _ not_well_formed none))
+      ∙ same_check (ltb t (day_length (ending s day))) no_instant refl (λ _. ap given (tai_held s f.list.well day t p k is.offset)))
 
   pub uts_said : (t : ℕ) → uts_by k day t ≡ utc_to_uts s day t
   uts_said t =
       same_instant f.list long_day uts_cutoff day t _ _
-      (λ w p q. ap (λ (e : Ending). require (ltb t (day_length e)) no_instant (given (uts e t))) (f.is w p q).ends)
+      (λ p q. ap (λ (e : Ending). require (ltb t (day_length e)) no_instant (given (uts e t))) (f.is p q).ends)
 
   pub micros_said : (u : ℕ) → micros_by k day u ≡ uts_to_utc s day u
-  micros_said u = same_instant f.list nanos_per_day nanos_cutoff day u _ _ (λ w p q. ap (λ (e : Ending). given (utc_of e u)) (f.is w p q).ends)
+  micros_said u = same_instant f.list nanos_per_day nanos_cutoff day u _ _ (λ p q. ap (λ (e : Ending). given (utc_of e u)) (f.is p q).ends)
 
 -- before the last 1,001 s of a day it does not matter how the day ends
-module _ {s : Schedule} {well : Bool} {last : ℕ} (f : ListFor s well last) (day : ℕ) where
-  pub early_uts_said : (t : ℕ) → t < uts_cutoff → early_uts well last day t ≡ utc_to_uts s day t
+module _ {s : Schedule} {last : ℕ} (f : ListFor s last) (day : ℕ) where
+  pub early_uts_said : (t : ℕ) → t < uts_cutoff → early_uts last day t ≡ utc_to_uts s day t
   early_uts_said t h =
-      same_date f day (1000 * min t uts_cutoff) (uts (ending s day) t) (λ _ _ _. omega arith ∙ sym (uts_plain (ending s day) t (omega arith)))
+      same_date f day (1000 * min t uts_cutoff) (uts (ending s day) t) (λ _ _. omega arith ∙ sym (uts_plain (ending s day) t (omega arith)))
       ∙ sym (early_utc (uts (ending s day) t) (well_formed s) (last_day s) (ending s day) uts_cutoff day t (omega arith) h)
 
-  pub early_micros_said : (u : ℕ) → u < nanos_cutoff → early_micros well last day u ≡ uts_to_utc s day u
+  pub early_micros_said : (u : ℕ) → u < nanos_cutoff → early_micros last day u ≡ uts_to_utc s day u
   early_micros_said u h =
-      same_date f day (u / 1000) (utc_of (ending s day) u) (λ _ _ _. back_plain (ending s day) u h)
+      same_date f day (u / 1000) (utc_of (ending s day) u) (λ _ _. back_plain (ending s day) u h)
       ∙ sym (early_as_date (utc_of (ending s day) u) (well_formed s) (last_day s) nanos_per_day nanos_cutoff day u (omega arith) h)
 
 -- TAI to UTC, by the day near it
@@ -100,21 +92,22 @@ from_start_lem k day t h =
     (sym (pass not_known (known_on_date k.last tai_cutoff day t (omega arith) ∙ le-leb day k.last h))))
     (λ e. rw e)
 
-pub utc_said : {s : Schedule} {near : ℕ} {k : Day} (x : ℕ) → DayFor s near k → (well_formed s ≡ true → near ≡ near_day x (last_day s)) → utc_by k near x ≡ tai_to_utc s x
-utc_said {s} {near} {k} x f n =
-    same_check (well_formed s) not_well_formed f.list.is_well λ w.
+pub utc_said : {s : Schedule} {near last : ℕ} {k : Day} (x : ℕ) → DayFor s near k → last ≡ last_day s → near ≡ near_day x last → utc_by k near x ≡ tai_to_utc s x
+utc_said {s} {near} {last} {k} x f e m =
+    let w = f.list.well in
+    let n : near ≡ near_day x (last_day s) = m ∙ ap (λ Z. near_day x Z) e in
+    same_check (well_formed s) not_well_formed (sym w) λ _.
     same_check (leb first_tai x) before1972 refl λ p.
     let enough = leb-true first_tai x p in
-    let from = near_from s w x enough near (n w) in
-    let through : near ≤ last_day s = omega (arith, n w) in
-    let is = f.is w from through in
-    let last = f.list.is_last w in
+    let from = near_from s w x enough near n in
+    let through : near ≤ last_day s = omega (arith, n) in
+    let is = f.is from through in
     let start : tai_said k near 0 ≡ tai s near 0 = tai_held s w near 0 from k is.offset in
-    let since : held x (tai_said k near 0) ≡ x - tai s near 0 = ap (λ b. held x b) start ∙ held_exact x (tai s near 0) (near_begun s w x enough near (n w)) in
+    let since : held x (tai_said k near 0) ≡ x - tai s near 0 = ap (λ b. held x b) start ∙ held_exact x (tai s near 0) (near_begun s w x enough near n) in
     pass not_known (lt-ltb near end_day (omega (arith, last_inside s w)))
     ∙ from_start_lem k near (held x (tai_said k near 0)) (omega arith)
-    ∙ ap₂ (λ (e : Ending) (Z : ℕ). within near e Z (held x (tai_said k near 0))) is.ends last
+    ∙ ap₂ (λ (e : Ending) (Z : ℕ). within near e Z (held x (tai_said k near 0))) is.ends f.list.is_last
     ∙ ap (λ t. within near (ending s near) (last_day s) t) since
-    ∙ from_near s w x enough near (n w)
+    ∙ from_near s w x enough near n
     ∙ pass not_well_formed w
     ∙ pass before1972 p

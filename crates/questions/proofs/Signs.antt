@@ -7,7 +7,8 @@ use lib.Seq.{take-nil}
 use Rattle.calendar.specs.Calendar.{month_start}
 use Rattle.schedule.specs.declared.Sign.{Sign}
 use Rattle.schedule.specs.declared.Sign.TheVariants.{Positive, Negative}
-use Rattle.schedule.specs.Schedule.{Leap, Schedule, no_leap, gaps_fit, well_formed}
+use Rattle.schedule.specs.declared.Leap.{Leap}
+use Rattle.schedule.specs.Schedule.{Schedule, no_leap, gaps_fit, well_formed}
 use Rattle.schedule.specs.Extends.{same_sign}
 use Rattle.schedule.proofs.Gaps.{later, parts}
 use Rattle.clock.specs.Days.{first_dtai, dtai}
@@ -27,7 +28,7 @@ of_sign_next sign ls n h = ap (of_sign sign) step ∙ last (take n ls) (get_or l
     last [] l = omega arith
     last (x ∷ xs) l = omega (arith, last xs l)
 
-one_sign : (sign : Sign) → one_of Positive sign + one_of Negative sign ≡ 1
+pub one_sign : (sign : Sign) → one_of Positive sign + one_of Negative sign ≡ 1
 one_sign Positive = refl
 one_sign Negative = refl
 

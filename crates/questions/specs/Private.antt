@@ -1,12 +1,11 @@
--- What only private functions are held to: the leaps by a month, those of a sign among them, and the number of a chain of checks. No public
--- contract and no promise speaks of these.
+-- What only private functions are held to: the leaps by a month, and those of a sign among them. No public contract and no promise speaks of these.
 -- Assumes nothing: these are definitions.
-use Rattle.std.specs.Prelude.{◌≡◌, ℕ, zero, suc, ◌+◌, ◌<◌, ◌≤◌, cond, List, [], ◌∷◌, length, get_or, take, slice_index_or}
+use Rattle.std.specs.Prelude.{◌≡◌, ℕ, ◌+◌, ◌<◌, ◌≤◌, cond, List, [], ◌∷◌, length, get_or, take}
 use Rattle.schedule.specs.declared.Sign.{Sign}
 use Rattle.schedule.specs.declared.Sign.TheVariants.{Negative}
-use Rattle.schedule.specs.Schedule.{Leap, no_leap}
+use Rattle.schedule.specs.declared.Leap.{Leap}
+use Rattle.schedule.specs.Schedule.{no_leap}
 use Rattle.schedule.specs.Extends.{same_sign}
-use Rattle.refusals.specs.Answer.{Answer, given, refused}
 
 -- of leaps in their order the first n lie at a month or before it, and the next one after it
 pub record ByMonth (ls : List Leap) (month n : ℕ) : Type 0 where
@@ -27,13 +26,3 @@ of_sign sign (l ∷ ls) = one_of sign l.sign + of_sign sign ls
 pub record Lowered (ls : List Leap) (n down : ℕ) : Type 0 where
   pub sum : down ≡ of_sign Negative (take n ls)
   pub few : down ≤ n
-
--- leap n has that month and sign; where there is none, the month is 0
-pub record Ahead (ls : List Leap) (n next : ℕ) (sign : Sign) : Type 0 where
-  pub some : n < length ls → slice_index_or ls n no_leap ≡ record { month = next; sign = sign }
-  pub none : length ls ≤ n → next ≡ 0
-
--- what the number of a chain of checks says: 0 that all are passed
-abbrev pub told : ℕ → Answer (Unit {0})
-told zero = given tt
-told (suc n) = refused (suc n)

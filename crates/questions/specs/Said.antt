@@ -1,7 +1,7 @@
 -- What a list says of a day, as `by_day` has it, and what is answered by it: for single questions, whose day is found in the words, and for many,
 -- whose days are found in a list prepared. Where a schedule says it of the day, the answers are the schedule's (`dtai_said_lem`, `tai_said_lem`, ..).
 -- Assumes nothing: these are definitions.
-use Rattle.std.specs.Prelude.{◌≡◌, ℕ, ◌+◌, ◌-◌, ◌*◌, ◌/◌, ◌^◌, ◌≤◌, min, Bool, true, cond, ℤ, nat_le, nat_lt}
+use Rattle.std.specs.Prelude.{◌≡◌, ℕ, ◌+◌, ◌-◌, ◌*◌, ◌/◌, ◌^◌, ◌≤◌, min, true, cond, ℤ, nat_le, nat_lt}
 use Rattle.std.proofs.Math.IntN.{sub_ℕ}
 use Rattle.refusals.specs.Refusals.{before1972, not_known, not_well_formed}
 use Rattle.calendar.specs.Calendar.{first_day, end_day}
@@ -19,23 +19,22 @@ use Rattle.questions.specs.declared.by_day.Day.{Day}
 abbrev pub dtai_said : Day → ℤ
 dtai_said k = sub_ℕ (first_dtai + k.up) k.down
 
--- whether the schedule is well formed; and, for a well-formed one, its last day
-pub record ListFor (s : Schedule) (well : Bool) (last : ℕ) : Type 0 where
-  pub is_well : well ≡ well_formed s
-  pub is_last : well_formed s ≡ true → last ≡ last_day s
+-- the schedule is well formed, and that is its last day
+pub record ListFor (s : Schedule) (last : ℕ) : Type 0 where
+  pub well : well_formed s ≡ true
+  pub is_last : last ≡ last_day s
 
 -- the day's DTAI, and how it ends
 pub record SaidOf (s : Schedule) (day : ℕ) (k : Day) : Type 0 where
   pub offset : dtai_said k ≡ dtai s day
   pub ends : k.ending ≡ ending s day
 
--- k is what the schedule says of the day: for any schedule, whether it is well formed; for a well-formed one also its last day;
--- and DTAI and how the day ends for a day from 1972 through the last one
+-- k is what a well-formed schedule says of the day: its last day; and DTAI and how the day ends for a day from 1972 through the last one
 pub record DayFor (s : Schedule) (day : ℕ) (k : Day) : Type 0 where
-  pub list : ListFor s k.well k.last
-  pub is : well_formed s ≡ true → first_day ≤ day → day ≤ last_day s → SaidOf s day k
+  pub list : ListFor s k.last
+  pub is : first_day ≤ day → day ≤ last_day s → SaidOf s day k
 
--- ---- what is answered by it
+-- ---- what is answered by it: a list says it, so no answer is refused with 11 but one by a last day past the calendar
 
 -- a - b as 64 bits hold it, with 2^64 more where it is below zero. By what a list says it never is (`tai_said_lem`, `utc_said`).
 abbrev pub held : ℕ → ℕ → ℕ
@@ -47,25 +46,25 @@ tai_said k day t = held (micros_per_day * day + t + micros_per_second * (first_d
 
 -- DTAI for a date
 abbrev pub dtai_by : Day → ℕ → Answer ℤ
-dtai_by k day = at_date k.well k.last day (dtai_said k)
+dtai_by k day = at_date true k.last day (dtai_said k)
 
 -- UTC to TAI; no list ends past the calendar
 abbrev pub tai_by : Day → ℕ → ℕ → Answer ℕ
-tai_by k day t = require (nat_lt k.last end_day) not_well_formed (at_utc k.well k.last k.ending tai_cutoff day t (tai_said k day t))
+tai_by k day t = require (nat_lt k.last end_day) not_well_formed (at_utc true k.last k.ending tai_cutoff day t (tai_said k day t))
 
--- UTC to UTS; and before the last 1,001 s of a day, by whether words are a list, and its last day
+-- UTC to UTS; and before the last 1,001 s of a day, by the last day of the list
 abbrev pub uts_by : Day → ℕ → ℕ → Answer ℕ
-uts_by k day t = at_utc k.well k.last k.ending uts_cutoff day t (uts k.ending t)
+uts_by k day t = at_utc true k.last k.ending uts_cutoff day t (uts k.ending t)
 
-abbrev pub early_uts : Bool → ℕ → ℕ → ℕ → Answer ℕ
-early_uts well last day t = at_date well last day (1000 * min t uts_cutoff)
+abbrev pub early_uts : ℕ → ℕ → ℕ → Answer ℕ
+early_uts last day t = at_date true last day (1000 * min t uts_cutoff)
 
 -- UTS to UTC; and likewise
 abbrev pub micros_by : Day → ℕ → ℕ → Answer ℕ
-micros_by k day u = at_uts k.well k.last day u (utc_of k.ending u)
+micros_by k day u = at_uts true k.last day u (utc_of k.ending u)
 
-abbrev pub early_micros : Bool → ℕ → ℕ → ℕ → Answer ℕ
-early_micros well last day u = at_date well last day (u / 1000)
+abbrev pub early_micros : ℕ → ℕ → ℕ → Answer ℕ
+early_micros last day u = at_date true last day (u / 1000)
 
 -- TAI to UTC goes by a day near the TAI: no DTAI is above 266 s, so the day that this gives is that of the TAI or the one before it, or `last`
 abbrev pub most_dtai : ℕ
@@ -84,10 +83,9 @@ from_start k day t =
     cond (nat_lt t short_day) (given (record { day = day; micros = t }))
     (cond (nat_lt t (day_length k.ending)) (on_day day t k.last) (on_day (day + 1) (t - day_length k.ending) k.last))
 
--- TAI to UTC, by the day near it: 11, 8, 10 where that day lies past the calendar; and then the instant so far after that day's start
+-- TAI to UTC, by the day near it: 8, 10 where that day lies past the calendar; and then the instant so far after that day's start
 abbrev pub utc_by : Day → ℕ → ℕ → Answer Utc
 utc_by k near x =
-    require k.well not_well_formed
-    (require (nat_le first_tai x) before1972
+    require (nat_le first_tai x) before1972
     (require (nat_lt near end_day) not_known
-    (from_start k near (held x (tai_said k near 0)))))
+    (from_start k near (held x (tai_said k near 0))))

@@ -1,18 +1,18 @@
-// What an instant of UTC or of UTS is refused with, in the paper's order, by what the schedule says of its day.
-ghost use Rattle.std.specs.Prelude.{◌≡◌, ◌<◌, ◌≤◌};
+// What an instant of UTC or of UTS is refused with under a list, in the paper's order, by what the list says of its day.
+ghost use Rattle.std.specs.Prelude.{◌≡◌, ◌<◌, ◌≤◌, true, OnOk};
 ghost use Rattle.calendar.specs.Calendar.{first_day};
 ghost use Rattle.clock.specs.Days.{short_day, day_length};
 ghost use Rattle.clock.specs.Known.{fully_known, known_to};
-ghost use Rattle.refusals.specs.Answer.{given};
+ghost use Rattle.refusals.specs.Answer.{given, answer_of};
 ghost use Rattle.clock.specs.Question.{at_instant, at_utc};
-ghost use Rattle.questions.specs.Private.{told};
 
-use crate::days::{date_refusal, day_length};
+use crate::days::{check_date, day_length};
 use calendar::{END_DAY, FIRST_DAY};
 use clock::{Ending, LONG_DAY, SHORT_DAY};
-use refusals::{BEFORE_1972, NO_INSTANT, NOT_KNOWN, NOT_WELL_FORMED};
+use refusals::Refusal;
 
 // Whether the last day is fully known: the next day isn't the first of a month.
+#[tactic(auto, unfolding(clock::specs::Known::fully_known), using(calendar::proofs::Laws::first_past))]
 fn is_whole(last: u64) -> bool
     ensures { result ≡ fully_known last }
 {
@@ -23,6 +23,7 @@ fn is_whole(last: u64) -> bool
 }
 
 // Whether a time of a day is known: before the last day, and on it below the cut-off or if it is fully known.
+#[tactic(auto, using(clock::proofs::Checks::known_before, clock::proofs::Checks::known_below, clock::proofs::Checks::known_after, clock::proofs::Checks::known_from))]
 pub(crate) fn is_known(last: u64, cutoff: u64, day: u64, t: u64) -> bool
     ensures { result ≡ known_to last cutoff day t }
 {
@@ -38,49 +39,48 @@ pub(crate) fn is_known(last: u64, cutoff: u64, day: u64, t: u64) -> bool
     is_whole(last)
 }
 
-// The number with which an instant of UTC or of UTS is refused, or 0, by whether the schedule is well formed and its last day: there is no
-// instant from `limit` on, and on the last day it is known below the cut-off.
-pub(crate) fn instant_refusal(
-    well: bool,
+// What an instant of UTC or of UTS is refused with, by the last day: there is no instant from `limit` on, and on the last day it is known below the
+// cut-off.
+#[tactic(auto, using(crate::proofs::Checked::known_through))]
+pub(crate) fn check_instant(
     last: u64,
     limit: u64,
     cutoff: u64,
     day: u64,
     t: u64,
-) -> u8
-    ensures { (at_instant well last limit cutoff day t (given tt) ≡ told result) × (result ≡ 0 → (first_day ≤ day) × (day ≤ last) × (t < limit)) }
+) -> Result<(), Refusal>
+    ensures checks { answer_of result ≡ at_instant true last limit cutoff day t (given tt) }
+    ensures passed { OnOk result ((first_day ≤ day) × (day ≤ last) × (t < limit)) }
 {
-    if !well {
-        return NOT_WELL_FORMED;
-    }
     if day < FIRST_DAY {
-        return BEFORE_1972;
+        return Err(Refusal::Before1972);
     }
     if limit <= t {
-        return NO_INSTANT;
+        return Err(Refusal::NoInstant);
     }
     if !is_known(last, cutoff, day, t) {
-        return NOT_KNOWN;
+        return Err(Refusal::NotKnown);
     }
-    0
+    Ok(())
 }
 
-// The number with which an instant of UTC is refused, or 0: at last it must lie within the day's own length. Below the cut-off it is known on
-// every known date.
-pub(crate) fn utc_refusal(well: bool, last: u64, w: Ending, cutoff: u64, day: u64, t: u64) -> u8
+// What an instant of UTC is refused with: at last it must lie within the day's own length. Below the cut-off it is known on every known date.
+pub(crate) fn check_utc(last: u64, w: Ending, cutoff: u64, day: u64, t: u64) -> Result<(), Refusal>
     requires { cutoff ≤ short_day }
-    ensures { (at_utc well last w cutoff day t tt ≡ told result) × (result ≡ 0 → (first_day ≤ day) × (day ≤ last) × (t < day_length w)) }
+    ensures checks { answer_of result ≡ at_utc true last w cutoff day t tt }
+    ensures passed { OnOk result ((first_day ≤ day) × (day ≤ last) × (t < day_length w)) }
 {
     if t < cutoff {
-        return date_refusal(well, last, day);
+        return check_date(last, day);
     }
-    let number = instant_refusal(well, last, LONG_DAY, cutoff, day, t);
-    if number != 0 {
-        return number;
-    }
+    check_instant(last, LONG_DAY, cutoff, day, t)?;
     // Every day has so much, however it ends.
     if t < SHORT_DAY {
-        return 0;
+        return Ok(());
     }
-    if t < day_length(w) { 0 } else { NO_INSTANT }
+    if t < day_length(w) {
+        Ok(())
+    } else {
+        Err(Refusal::NoInstant)
+    }
 }

@@ -1,11 +1,12 @@
 // The five questions, one at a time: DTAI for a date, UTC to TAI and back, UTC to smoothed time (UTS) and back. Any words and any number may be
-// given; what can't be answered is refused by its number.
+// given; what can't be answered is refused.
 #![tactic(auto)]
 
 ghost use Rattle.std.specs.Prelude.{◌≡◌};
 ghost use Rattle.schedule.specs.WordLayout.{meant};
 ghost use Rattle.clock.specs.Question.{dtai_on, utc_to_tai, tai_to_utc, utc_to_uts, uts_to_utc};
-ghost use Rattle.clock.specs.Answers.{dtai_answer, tai_answer, utc_answer, uts_answer, micros_answer};
+ghost use Rattle.clock.specs.Answers.{tai_count, utc_count, uts_count, instant};
+ghost use Rattle.refusals.specs.Answer.{answer_by, answer_of};
 
 pub mod by_day; // by_day.rt: what is answered by what a list says of a day
 mod days;
@@ -14,58 +15,59 @@ mod look;
 mod smooth;
 
 use crate::by_day::{
-    day_before, dtai_on, early_micros, early_uts, micros_on, near_day, tai_on, utc_on, uts_on,
+    dtai_on, early_micros, early_uts, last_day, micros_on, near_day, tai_on, utc_on, uts_on,
 };
 use crate::days::day_in;
-use clock::{
-    DtaiAnswer, MicrosAnswer, NANOS_CUTOFF, TaiAnswer, TaiMicros, UTS_CUTOFF, UtcAnswer, UtcMicros,
-    UtsAnswer, UtsNanos,
-};
-use schedule::expiry_of;
+use clock::{NANOS_CUTOFF, TaiMicros, UTS_CUTOFF, UtcInstant, UtcMicros, UtsNanos};
+use refusals::Refusal;
+use schedule::List;
 
 // DTAI, TAI minus UTC, for a date.
-pub fn dtai(words: &[u32; 514], day: u64) -> DtaiAnswer
-    ensures { result ≡ dtai_answer (dtai_on (meant words.now) day) }
+pub fn dtai(words: &[u32; 514], day: u64) -> Result<i32, Refusal>
+    ensures { answer_of result ≡ dtai_on (meant words.now) day }
 {
-    let last = day_before(expiry_of(words));
-    dtai_on(day_in(words, last, day), day)
+    let list = List::of(words)?;
+    dtai_on(day_in(list, day), day)
 }
 
 // UTC to TAI.
-pub fn utc_to_tai(words: &[u32; 514], day: u64, t: UtcMicros) -> TaiAnswer
-    ensures { result ≡ tai_answer (utc_to_tai (meant words.now) day t.0) }
+#[tactic(auto, using(crate::proofs::Said::tai_said_lem))]
+pub fn utc_to_tai(words: &[u32; 514], day: u64, t: UtcMicros) -> Result<TaiMicros, Refusal>
+    ensures { answer_by tai_count result ≡ utc_to_tai (meant words.now) day t.0 }
 {
-    let last = day_before(expiry_of(words));
-    tai_on(day_in(words, last, day), day, t.0)
+    let list = List::of(words)?;
+    tai_on(day_in(list, day), day, t)
 }
 
 // TAI to UTC: the one instant whose TAI it is.
-pub fn tai_to_utc(words: &[u32; 514], x: TaiMicros) -> UtcAnswer
-    ensures { result ≡ utc_answer (tai_to_utc (meant words.now) x.0) }
+pub fn tai_to_utc(words: &[u32; 514], x: TaiMicros) -> Result<UtcInstant, Refusal>
+    ensures { answer_by instant result ≡ tai_to_utc (meant words.now) x.0 }
 {
-    let last = day_before(expiry_of(words));
-    let near = near_day(x.0, last);
-    utc_on(day_in(words, last, near), near, x.0)
+    let list = List::of(words)?;
+    let near = near_day(x, last_day(list));
+    utc_on(day_in(list, near), near, x)
 }
 
 // UTC to smoothed time.
-pub fn utc_to_uts(words: &[u32; 514], day: u64, t: UtcMicros) -> UtsAnswer
-    ensures { result ≡ uts_answer (utc_to_uts (meant words.now) day t.0) }
+#[tactic(auto, using(crate::proofs::Said::early_uts_said, crate::proofs::Said::uts_said))]
+pub fn utc_to_uts(words: &[u32; 514], day: u64, t: UtcMicros) -> Result<UtsNanos, Refusal>
+    ensures { answer_by uts_count result ≡ utc_to_uts (meant words.now) day t.0 }
 {
-    let last = day_before(expiry_of(words));
+    let list = List::of(words)?;
     if t.0 < UTS_CUTOFF {
-        return early_uts(schedule::is_list(words), last, day, t.0);
+        return early_uts(last_day(list), day, t);
     }
-    uts_on(day_in(words, last, day), day, t.0)
+    uts_on(day_in(list, day), day, t)
 }
 
 // Smoothed time to UTC: the greatest microsecond of the day whose smoothed time is not above the one given.
-pub fn uts_to_utc(words: &[u32; 514], day: u64, u: UtsNanos) -> MicrosAnswer
-    ensures { result ≡ micros_answer (uts_to_utc (meant words.now) day u.0) }
+#[tactic(auto, using(crate::proofs::Said::early_micros_said, crate::proofs::Said::micros_said))]
+pub fn uts_to_utc(words: &[u32; 514], day: u64, u: UtsNanos) -> Result<UtcMicros, Refusal>
+    ensures { answer_by utc_count result ≡ uts_to_utc (meant words.now) day u.0 }
 {
-    let last = day_before(expiry_of(words));
+    let list = List::of(words)?;
     if u.0 < NANOS_CUTOFF {
-        return early_micros(schedule::is_list(words), last, day, u.0);
+        return early_micros(last_day(list), day, u);
     }
-    micros_on(day_in(words, last, day), day, u.0)
+    micros_on(day_in(list, day), day, u)
 }

@@ -1,12 +1,12 @@
 -- The answers of a writer: of bytes that fit or do not, and of the list of a schedule.
 -- Assumes nothing.
-use Rattle.std.proofs.Common.{◌≡◌, ℕ, ◌+◌, ◌<◌, ◌≤◌, true, false, List, ◌++◌, length, drop, ap, ◌∙◌, arith, le-ltb, lt-ltb, le-leb}
+use Rattle.std.proofs.Common.{◌≡◌, ℕ, ◌+◌, ◌<◌, ◌≤◌, true, false, List, ◌++◌, length, drop, ap, ◌∙◌, arith, le-leb}
 use lib.Seq.{sets, sets-eq}
 use borrow.Author.Tests.{lt-leb}
 use Rattle.refusals.specs.Answer as answer
 use Rattle.refusals.specs.Answer.{require}
 use Rattle.refusals.specs.Refusals.{output_short, not_well_formed, no_gap}
-use Rattle.schedule.specs.Schedule.{Schedule, month_of, last_leap, leaves_gap, well_formed}
+use Rattle.schedule.specs.Schedule.{Schedule, leaves_gap, well_formed}
 use Rattle.schedule.specs.Answers.{fitting, fitted, writable, writing, written}
 use Rattle.schedule.proofs.Cases.{by_bool}
 
@@ -17,7 +17,7 @@ module _ (bytes out : List ℕ) where
 
   -- there is room, and the bytes are stored from the start
   pub fits : (n : ℕ) → n ≡ length bytes → n ≤ length out → (exit : List ℕ) → exit ≡ sets out 0 bytes → Fits (answer.given n) exit
-  unfolding fitting fitted
+  unfolding fitted
   fits n e h exit x =
       let l : length bytes ≤ length out = omega arith in
       let z : 0 + length bytes ≡ length bytes = omega arith in
@@ -26,7 +26,7 @@ module _ (bytes out : List ℕ) where
 
   -- or there is none
   pub no_room : (n : ℕ) → n ≡ length bytes → length out < n → Fits (answer.refused output_short) out
-  unfolding fitting fitted
+  unfolding fitted
   no_room n e h =
       let l : length out < length bytes = omega arith in
       (simp (lt-leb (length bytes) (length out) l), simp (lt-leb (length bytes) (length out) l))
@@ -35,37 +35,19 @@ module _ (bytes out : List ℕ) where
 
 module _ {A : Type 0} (s : Schedule) (a : answer.Answer A) where
   pub not_formed : well_formed s ≡ false → writable s a ≡ answer.refused not_well_formed
-  unfolding writable
   not_formed w = simp w
 
   pub can_write : well_formed s ≡ true → leaves_gap s ≡ true → writable s a ≡ a
-  unfolding writable
   can_write w g = simp (w, g)
 
-  pub no_gap_lem : well_formed s ≡ true → leaves_gap s ≡ false → writable s a ≡ answer.refused no_gap
-  unfolding writable
-  no_gap_lem w g = simp (w, g)
-
-  module _ (w : well_formed s ≡ true) {last month : ℕ} (l : last ≡ last_leap 0 s.leaps) (m : month ≡ month_of s.expiry) where
-    pub has_gap : last < month → writable s a ≡ a
-    has_gap h = can_write w (lt-ltb (last_leap 0 s.leaps) (month_of s.expiry) (omega arith))
-
-    pub without_gap : month ≤ last → writable s a ≡ answer.refused no_gap
-    without_gap h = no_gap_lem w (le-ltb (last_leap 0 s.leaps) (month_of s.expiry) (omega arith))
-
--- words that are no list are none that a writer takes
-pub not_list : {A B : Type 0} (s : Schedule) {n : ℕ} (x : A) (a : answer.Answer B) → answer.refused n ≡ require (well_formed s) not_well_formed (answer.given x) → answer.refused n ≡ writable s a
-not_list s x a e = by_bool (well_formed s) (λ w. absurd (let z = simp w at e in cc)) (λ w. let z = simp w at e in rw (not_formed s a w) cc)
-
--- words that are a list are the words given
-pub listed : {A : Type 0} (s : Schedule) {x y : A} → answer.given x ≡ require (well_formed s) not_well_formed (answer.given y) → (well_formed s ≡ true) × (x ≡ y)
-listed s e = by_bool (well_formed s) (λ w. let z = simp w at e in (w, cc)) (λ w. absurd (let z = simp w at e in cc))
+  pub gapless : well_formed s ≡ true → leaves_gap s ≡ false → writable s a ≡ answer.refused no_gap
+  gapless w g = simp (w, g)
 
 -- given says that it can be written
 pub writable_lem : {A : Type 0} (s : Schedule) {x y : A} → answer.given x ≡ writable s (answer.given y) → (well_formed s ≡ true) × (leaves_gap s ≡ true) × (x ≡ y)
 writable_lem s {x} {y} e =
     by_bool (well_formed s)
-    (λ w. by_bool (leaves_gap s) (λ g. let z = e ∙ can_write s (answer.given y) w g in (w, g, cc)) (λ g. let z = e ∙ no_gap_lem s (answer.given y) w g in absurd cc))
+    (λ w. by_bool (leaves_gap s) (λ g. let z = e ∙ can_write s (answer.given y) w g in (w, g, cc)) (λ g. let z = e ∙ gapless s (answer.given y) w g in absurd cc))
     (λ w. let z = e ∙ not_formed s (answer.given y) w in absurd cc)
 
 -- what a writer promises of its answer and of the output
@@ -74,7 +56,7 @@ Answer s bytes out r exit = (r ≡ writing s bytes (length out)) × (exit ≡ wr
 
 module _ (s : Schedule) (bytes out : List ℕ) where
   formed : well_formed s ≡ true → leaves_gap s ≡ true → {r : answer.Answer ℕ} {exit : List ℕ} → Fits bytes out r exit → Answer s bytes out r exit
-  unfolding writable writing written
+  unfolding written
   formed w g f = (simp (w, g) f.0, simp (w, g) f.1)
 
   pub taken : well_formed s ≡ true → leaves_gap s ≡ true → (n : ℕ) → n ≡ length bytes → n ≤ length out → (exit : List ℕ) → exit ≡ sets out 0 bytes
@@ -84,12 +66,12 @@ module _ (s : Schedule) (bytes out : List ℕ) where
   pub short : well_formed s ≡ true → leaves_gap s ≡ true → (n : ℕ) → n ≡ length bytes → length out < n → Answer s bytes out (answer.refused output_short) out
   short w g n e h = formed w g (no_room bytes out n e h)
 
-  pub gapless : well_formed s ≡ true → leaves_gap s ≡ false → Answer s bytes out (answer.refused no_gap) out
-  unfolding writable writing written
-  gapless w g = (simp (w, g), simp (w, g))
+  pub no_gap_lem : well_formed s ≡ true → leaves_gap s ≡ false → Answer s bytes out (answer.refused no_gap) out
+  unfolding written
+  no_gap_lem w g = (simp (w, g), simp (w, g))
 
   pub wrong : well_formed s ≡ false → Answer s bytes out (answer.refused not_well_formed) out
-  unfolding writable writing written
+  unfolding written
   wrong w = (simp w, simp w)
 
   -- as the code asks: where a list is not writable, that is the refusal
@@ -98,5 +80,5 @@ module _ (s : Schedule) (bytes out : List ℕ) where
       by_bool (well_formed s)
       (λ w.
       by_bool (leaves_gap s) (λ g. let z = e ∙ can_write s (answer.given x) w g in absurd cc)
-      (λ g. let z = e ∙ no_gap_lem s (answer.given x) w g in let k : n ≡ no_gap = cc in rw k (gapless w g)))
+      (λ g. let z = e ∙ gapless s (answer.given x) w g in let k : n ≡ no_gap = cc in rw k (no_gap_lem w g)))
       (λ w. let z = e ∙ not_formed s (answer.given x) w in let k : n ≡ not_well_formed = cc in rw k (wrong w))

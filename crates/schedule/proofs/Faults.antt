@@ -1,9 +1,7 @@
 -- The faults of words, counted place by place: there is none exactly when they are the words of a well-formed schedule.
 -- Assumes nothing.
-use Rattle.std.proofs.Common.{◌≡◌, ℕ, zero, suc, ◌+◌, ◌-◌, ◌*◌, ◌%◌, ◌<◌, ◌≤◌, Bool, true, false, ◌&&◌, eqb, ltb, List, length, get_or, drop, sym, refl, ap, ◌∙◌, ap₂, add-one, arith, le-ltb, lt-ltb, eq-eqb, ne_eqb, le-leb}
-use mathlib.Core.Bool.{and-true}
-use native.Mathlib.Decide.{dec_lt}
-use borrow.Author.Tests.{lt-leb}
+use Rattle.std.proofs.Common.{◌≡◌, ℕ, zero, suc, ◌+◌, ◌*◌, ◌<◌, ◌≤◌, Bool, true, ◌&&◌, eqb, ltb, List, length, get_or, drop, sym, refl, ap, ◌∙◌, ap₂, add-one, arith, eq-eqb, ne_eqb}
+use mathlib.Core.Bool.{and_assoc}
 use Rattle.schedule.specs.Schedule.{Leap, Schedule, max_leaps, max_gap, no_leap, gap_fits, expiry_fits, gaps_fit}
 use Rattle.schedule.specs.Private.{great_month, signs_fit}
 use Rattle.schedule.specs.WordLayout.{count_word, expiry_word, laid_out}
@@ -22,18 +20,6 @@ eqb_sum (suc a) b = ne_eqb (suc a + b) 0 (λ e. omega arith) ∙ sym (rw (ne_eqb
 one_more : (faults r : ℕ) (now rest : Bool) → (faults ≡ 0 → eqb r 0 ≡ now) → (eqb faults 0 && (now && rest)) ≡ (eqb (faults + r) 0 && rest)
 one_more zero r now rest e = let z : 0 + r ≡ r = omega arith in rw (z, e refl)
 one_more (suc faults) r now rest e = rw (ne_eqb (suc faults) 0 (λ z. omega arith), ne_eqb (suc faults + r) 0 (λ z. omega arith))
-
--- ---- a gap told by two differences of 32 bits, which wrap round
-module _ (from to gap past : ℕ) (d : (gap + from) % 4_294_967_296 ≡ to) (e : (past + 1) % 4_294_967_296 ≡ gap) where
-  pub gap_near : from < great_month → past < max_gap → gap_fits from to ≡ true
-  gap_near f h = simp (lt-ltb from to (omega arith), le-leb (to - from) max_gap (omega arith))
-
-  pub gap_far : from < 4_294_967_296 → gap < 4_294_967_296 → past < 4_294_967_296 → max_gap ≤ past → gap_fits from to ≡ false
-  gap_far f g p h =
-      elim (dec_lt from to) [
-        | yes l ↦ simp (lt-ltb from to l, lt-leb (to - from) max_gap (omega arith))
-        | no l ↦ simp (le-ltb from to (omega arith))
-      ]
 
 -- ---- the leaps in use, up to place i: the faults in the gaps, and how great the month is where there is none
 pub record Gapped (s : Schedule) (faults last i : ℕ) : Type 0 where
@@ -71,11 +57,8 @@ module _ (s : Schedule) (room : length s.leaps ≤ max_leaps) (faults last i : �
       }
 
   -- after the last leap
-  pub gapped_all : length s.leaps ≤ i → (r : ℕ) → eqb r 0 ≡ expiry_fits last s.expiry → gaps_fit 0 s.leaps s.expiry ≡ eqb (faults + r) 0
-  gapped_all h r e =
-      p.gaps
-      ∙ ap (λ b. eqb faults 0 && b) (gap_last s i h last s.expiry ∙ sym (and-true (expiry_fits last s.expiry)))
-      ∙ (one_more faults r (expiry_fits last s.expiry) true (λ z. e) ∙ and-true (eqb (faults + r) 0))
+  pub gapped_all : length s.leaps ≤ i → gaps_fit 0 s.leaps s.expiry ≡ (eqb faults 0 && expiry_fits last s.expiry)
+  gapped_all h = p.gaps ∙ ap (λ b. eqb faults 0 && b) (gap_last s i h last s.expiry)
 
 -- ---- words: up to leap i the faults in the gaps of the schedule laid out, and those of the sign words
 pub record GappedAt (words : List ℕ) (signs faults last i : ℕ) : Type 0 where
@@ -105,10 +88,11 @@ module _ (words : List ℕ) (room : count_word words ≤ max_leaps) (signs fault
         few = omega (arith, p.few, sign.1);
       }
 
-  -- after the last leap
-  pub gapped_at_all : count_word words ≤ i → (r : ℕ) → eqb r 0 ≡ expiry_fits last (expiry_word words)
-      → eqb (signs + (faults + r)) 0 ≡ (signs_fit words (count_word words) && gaps_fit 0 (laid_out words).leaps (expiry_word words))
-  gapped_at_all h r e =
+  -- after the last leap the leaps fit exactly where no fault was counted and the expiry fits
+  pub gapped_at_all : count_word words ≤ i
+      → (eqb (signs + faults) 0 && expiry_fits last (expiry_word words)) ≡ (signs_fit words (count_word words) && gaps_fit 0 (laid_out words).leaps (expiry_word words))
+  gapped_at_all h =
       let place : i ≡ count_word words = omega (arith, p.gapped.place, laid_length words) in
-      eqb_sum signs (faults + r)
-      ∙ ap₂ (λ x y. x && y) (sym (rw place at p.signed)) (sym (gapped_all (laid_out words) laid_room faults last i p.gapped (omega (arith, laid_length words)) r e))
+      ap (λ b. b && expiry_fits last (expiry_word words)) (eqb_sum signs faults)
+      ∙ (and_assoc (eqb signs 0) (eqb faults 0) (expiry_fits last (expiry_word words))
+      ∙ ap₂ (λ x y. x && y) (sym (rw place at p.signed)) (sym (gapped_all (laid_out words) laid_room faults last i p.gapped (omega (arith, laid_length words)))))

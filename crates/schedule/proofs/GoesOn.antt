@@ -47,10 +47,6 @@ module _ (a b : List ℕ) (wa : well_formed (meant a) ≡ true) (wb : well_forme
   by_further : Extends (meant a) (meant b) → (further : List Leap) × ExtendsBy (meant a) (meant b) further
   by_further x = (extends_exactly (meant a) (meant b) wa wb).0 x
 
-  -- an earlier expiry does not extend
-  pub earlier : (meant a).expiry < (meant b).expiry → extends (meant a) (meant b) ≡ false
-  earlier h = fails {a = meant a} {b = meant b} (λ x. absurd (omega (arith, x.later)))
-
   -- the leaps of a list that extends another are the other's and further ones
   module _ (further : List Leap) (x : ExtendsBy (meant a) (meant b) further) where
     enough : count_word b + length further ≡ count_word a

@@ -52,7 +52,7 @@ pub record ReadsInto (reading : Reading) (outcome : Result (Unit {0}) ParseError
   pub its_place : place_in outcome ≡ reading.place
 
 -- what writing bytes answers: 7 where the output has no room for them, else their count
-unfoldable pub fitting : List ℕ → ℕ → Answer ℕ
+abbrev pub fitting : List ℕ → ℕ → Answer ℕ
 fitting bytes room = require (nat_le (length bytes) room) output_short (given (length bytes))
 
 -- what the output then holds: the bytes and, beyond them, what it held; what it held where it has no room for them
@@ -60,13 +60,13 @@ unfoldable pub fitted : List ℕ → List ℕ → List ℕ
 fitted bytes out = cond (nat_le (length bytes) (length out)) (bytes ++ drop (length bytes) out) out
 
 -- what every writer asks first of a schedule, whatever the output: 11, then 17, else the answer
-unfoldable pub writable : {A : Type 0} → Schedule → Answer A → Answer A
+abbrev pub writable : {A : Type 0} → Schedule → Answer A → Answer A
 writable s answer =
     require (well_formed s) not_well_formed
     (require (leaves_gap s) no_gap answer)
 
 -- what a writer answers whose list of a schedule is `bytes`: refusal 11, then 17, then 7, else the count of bytes
-unfoldable pub writing : Schedule → List ℕ → ℕ → Answer ℕ
+abbrev pub writing : Schedule → List ℕ → ℕ → Answer ℕ
 writing s bytes room = writable s (fitting bytes room)
 
 -- what the output then holds: the list and, beyond it, what it held; what it held where the writer refuses

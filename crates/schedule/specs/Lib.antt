@@ -4,3 +4,4 @@ pub mod WordLayout
 pub mod Answers
 pub mod Private
 pub mod Rules
+pub mod Left

@@ -2,13 +2,9 @@
 -- Assumes nothing: these are definitions.
 use Rattle.std.specs.Prelude.{ℕ, ◌+◌, ◌-◌, Bool, ◌&&◌, List, [], ◌∷◌, length, nat_le, nat_lt}
 pub use Rattle.calendar.specs.Calendar.{last_month, end_day, month_start, month_of}
-use Rattle.schedule.specs.declared.Sign.{Sign}
-use Rattle.schedule.specs.declared.Sign.TheVariants.{Positive}
-
 -- a leap: the month at whose start it takes effect, and its sign
-pub record Leap : Type 0 where
-  pub month : ℕ
-  pub sign : Sign
+pub use Rattle.schedule.specs.declared.Leap.{Leap}
+use Rattle.schedule.specs.declared.Sign.TheVariants.{Positive}
 
 -- a schedule: its leaps, and the day (MJD) from which on nothing is known
 pub record Schedule : Type 0 where

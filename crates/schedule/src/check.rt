@@ -18,32 +18,29 @@ pub(crate) fn misfit(from: u32, to: u32) -> u32
     1
 }
 
-// 0 if an expiry day within the calendar is later than the first day of a month, and at most 999 months after it by month number; else 1. In most
-// lists it lies between bounds that take no computed start: with 487 days to 16 months, counted from day 41301, no month starts as late as the
-// month two numbers on would; and 1000 months have 28,000 days or more.
-pub(crate) fn expiry_misfit(from: u32, expiry: u32) -> u32
+// Whether an expiry day within the calendar is later than the first day of a month, and at most 999 months after it by month number. In most lists
+// it lies between bounds that take no computed start: with 487 days to 16 months, counted from day 41301, no month starts as late as the month two
+// numbers on would; and 1000 months have 28,000 days or more.
+pub(crate) fn expiry_fits(from: u32, expiry: u32) -> bool
     requires { expiry ≤ end_day }
-    ensures { ((result == 0) ≡ expiry_fits from expiry) × (result ≤ 1) }
+    ensures { result ≡ expiry_fits from expiry }
 {
     if LAST_MONTH <= from {
-        return 1;
+        return false;
     }
     if expiry <= FIRST_DAY {
-        return 1;
+        return false;
     }
     if 487 * (from + 2) + 16 * 41_301 <= 16 * expiry {
         if expiry < FIRST_DAY + 28 * (from + 1000) {
-            return 0;
+            return true;
         }
     }
     let month = u32::from(calendar::latest_month(u64::from(expiry)));
     if month == from {
-        if calendar::is_first(u64::from(expiry)) {
-            return 1;
-        }
-        return 0;
+        return !calendar::is_first(u64::from(expiry));
     }
-    misfit(from, month)
+    misfit(from, month) == 0
 }
 
 // 0 if a sign word is 0 or 1, else 1.
@@ -70,8 +67,10 @@ pub(crate) fn leaps_fit(words: &[u32; 514]) -> bool
         faults += misfit(last, at);
         last = at;
     }
-    faults += expiry_misfit(last, words[513]);
-    signs + faults == 0
+    if signs + faults != 0 {
+        return false;
+    }
+    expiry_fits(last, words[513])
 }
 
 // Whether the words after the leaps in use are all 0.

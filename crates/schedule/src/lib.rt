@@ -3,17 +3,18 @@
 #![tactic(auto)]
 
 ghost use Rattle.std.specs.Prelude.{◌≡◌, min, ◌&&◌};
-ghost use Rattle.refusals.specs.Answer.{given, answer_by};
 ghost use Rattle.refusals.specs.Refusals.{number_of};
 ghost use Rattle.schedule.specs.Schedule.{last_month, month_start, is_expired, well_formed};
 ghost use Rattle.schedule.specs.Extends.{extends};
 ghost use Rattle.schedule.specs.WordLayout.{count_word, expiry_word, month_word, sign_word, sign_of, meant, word_of_sign};
-ghost use Rattle.schedule.specs.Answers.{refusal, writable, ReadsInto};
+ghost use Rattle.schedule.specs.Answers.{refusal, ReadsInto};
 
 mod check; // check.rt: the faults of words that are not those of a well-formed schedule
+pub mod leaps; // leaps.rt: the leaps of a list, one after the other
 pub mod list; // list.rt: words that are known to be a list
 
-pub use list::List;
+pub use leaps::Leaps;
+pub use list::{List, WritableList, writable};
 use refusals::Refusal;
 
 // A schedule has at most 256 leaps.
@@ -37,11 +38,26 @@ pub enum Sign {
     Negative,
 }
 
+// A leap: the month at whose start it takes effect, and its sign.
+#[derive(Clone, Copy, Debug, PartialEq, Eq)]
+pub struct Leap {
+    pub month: u32,
+    pub sign: Sign,
+}
+
 // Why a list does not read, and where.
 #[derive(Clone, Copy, Debug, PartialEq, Eq)]
 pub struct ParseError {
     pub refusal: Refusal,
     pub place: usize,
+}
+
+impl From<ParseError> for Refusal {
+    ghost from_gives = { λ error why. why ≡ error.refusal };
+
+    fn from(error: ParseError) -> Refusal {
+        error.refusal
+    }
 }
 
 impl Sign {
@@ -147,40 +163,6 @@ pub fn is_expired(expiry: u32, month: u32) -> bool
     expiry <= expiry_at(month)
 }
 
-// Words as a list that every writer takes. It is refused with 11, or with 17 where rounding the expiry down leaves no gap.
-pub fn writable(words: &[u32; 514]) -> Result<List<'_>, Refusal>
-    ensures { answer_by (λ list. list.words.now) result ≡ writable (meant words.now) (given words.now) }
-{
-    let list = List::of(words)?;
-    if list.last_leap() < list.expiry_month() {
-        return Ok(list);
-    }
-    Err(Refusal::NoGap)
-}
-
-// Whether a list goes on from another: it has the other's leaps first, and then, at the other's expiry or after it, its own.
-fn goes_on(longer: List<'_>, shorter: List<'_>) -> bool
-    ensures { result ≡ extends (meant longer.entry.words.now) (meant shorter.entry.words.now) }
-{
-    let expiry = shorter.expiry();
-    if longer.expiry() < expiry {
-        return false;
-    }
-    let m = shorter.count();
-    let n = longer.count();
-    if n < m {
-        return false;
-    }
-    let (all, first) = (longer.words, shorter.words);
-    if all[..2 * m] != first[..2 * m] {
-        return false;
-    }
-    if m < n {
-        return is_expired(expiry, longer.month(m));
-    }
-    true
-}
-
 // Whether both are lists and the first extends the second; any words at all may be given.
 pub fn extends(longer: &[u32; 514], shorter: &[u32; 514]) -> bool
     ensures { result ≡ (well_formed (meant longer.now) && well_formed (meant shorter.now) && extends (meant longer.now) (meant shorter.now)) }
@@ -191,5 +173,5 @@ pub fn extends(longer: &[u32; 514], shorter: &[u32; 514]) -> bool
     let Ok(shorter) = List::of(shorter) else {
         return false;
     };
-    goes_on(longer, shorter)
+    longer.extends(shorter)
 }

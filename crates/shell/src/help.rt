@@ -144,7 +144,8 @@ Without one, all of them.\n\
 $ leapsec help utc | head -n 1\n\
 leapsec utc LIST TAI\n";
 
-const EXPECTED: &[u8] = b"? expected: help WORD, WORD being show, nybbles, text, dtai, tai, utc, uts, unsmooth, compare, longer, ask, replay or help\n";
+const EXPECTED: &[u8] =
+    b"? expected: help WORD, WORD being show, nybbles, text, dtai, tai, utc, uts, unsmooth, compare, longer, ask, replay or help\n";
 
 // What a word of questions asks, with an example.
 fn of_word(word: Word) -> &'static [u8] {

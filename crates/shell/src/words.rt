@@ -10,6 +10,7 @@ pub enum Own {
 }
 
 // The word of the program's own that a word is, if it is one.
+#[tactic(auto, using(ascii::proofs::Names::names), unfolding(crate::specs::Words::own_of))]
 pub fn own_of(word: &[u8]) -> Option<Own>
     ensures { result ≡ own_of word.now }
 {

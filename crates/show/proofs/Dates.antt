@@ -9,7 +9,8 @@ use Rattle.ascii.specs.Decimal.{digits_in, decimal, pair, with_sign}
 use Rattle.ascii.specs.Lines.{between}
 use Rattle.calendar.specs.Calendar.{InMonth, first_day, days_in_month, month_start, month_of}
 use Rattle.calendar.proofs.Laws.{start_next, start_last, late_month, is_month}
-use Rattle.schedule.specs.Schedule.{Leap, Schedule, well_formed}
+use Rattle.schedule.specs.declared.Leap.{Leap}
+use Rattle.schedule.specs.Schedule.{Schedule, well_formed}
 use Rattle.clock.specs.Days.{dtai}
 use Rattle.show.specs.Show.{date, date_of, stretch, stretches, shown}
 

@@ -1,5 +1,5 @@
 -- The laws of the crate.
-mod Known
+mod Stored
 mod Going
 pub mod Days
 pub mod Dates

@@ -3,7 +3,8 @@
 use Rattle.std.specs.Prelude.{ℕ, Bool, List, ◌++◌}
 use Rattle.ascii.specs.Ascii.{ascii}
 use Rattle.ascii.specs.Lines.{between}
-use Rattle.schedule.specs.Schedule.{Leap, Schedule}
+use Rattle.schedule.specs.declared.Leap.{Leap}
+use Rattle.schedule.specs.Schedule.{Schedule}
 use Rattle.show.specs.Show.{date_of, stretches}
 
 -- what is shown of a well-formed schedule from a day on, with the leaps after it: the stretches, and then the first day from which DTAI is unknown

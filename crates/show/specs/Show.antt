@@ -5,7 +5,8 @@ use Rattle.refusals.specs.Refusals.{not_well_formed}
 use Rattle.ascii.specs.Ascii.{ascii, minus_byte}
 use Rattle.ascii.specs.Decimal.{decimal, pair, with_sign}
 use Rattle.calendar.specs.Calendar.{first_day, year_of, month_start, month_of}
-use Rattle.schedule.specs.Schedule.{Leap, Schedule, well_formed}
+use Rattle.schedule.specs.declared.Leap.{Leap}
+use Rattle.schedule.specs.Schedule.{Schedule, well_formed}
 use Rattle.clock.specs.Days.{dtai}
 use Rattle.ascii.specs.Lines.{space_byte, between}
 use Rattle.ascii.specs.Refusal.{refusal}

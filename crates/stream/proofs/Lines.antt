@@ -9,9 +9,9 @@ use native.Mathlib.Decide.{dec_le}
 use lib.Dec.{eqb}
 use lib.ListN.{length, take, drop, length-append, length-drop, drop_of_length-le}
 use lib.Seq.{length-take-le, drop-drop, take-append-le, drop-append-le, take-append-add, drop-append-add}
-use Rattle.ascii.specs.Parts.{first_part, parts}
+use Rattle.ascii.specs.Parts.{first_part, parts, Split}
 use Rattle.ascii.proofs.Cases.{by_bool}
-use Rattle.ascii.proofs.Fields.{head_of, tail_of}
+use Rattle.ascii.proofs.Fields.{head_of, tail_of, first_and_rest}
 use Rattle.ascii.proofs.Splitting.{last_part, more_parts}
 use Rattle.ascii.specs.Lines.{newline}
 use Rattle.stream.specs.Lines.{but_last, lines_of, size_of, rest}
@@ -34,6 +34,11 @@ not_last p mark bytes =
 pub no_line_lem : (bytes : List ℕ) → length bytes ≤ length (first_part newline bytes) → lines_of bytes ≡ []
 unfolding lines_of
 no_line_lem bytes h = rw (last_part newline bytes h)
+
+-- a line is what stands before the first LF, and the others are those of what stands behind it
+pub split_line : {bytes line behind : List ℕ} → Split newline bytes line behind → lines_of bytes ≡ line ∷ lines_of behind
+unfolding lines_of
+split_line {bytes} {line} {behind} s = ap but_last (first_and_rest s) ∙ not_last line newline behind
 
 pub first_line : (bytes : List ℕ) (n : ℕ) → n ≡ length (first_part newline bytes) → n < length bytes → lines_of bytes ≡ take n bytes ∷ lines_of (drop (n + 1) bytes)
 unfolding lines_of

@@ -6,11 +6,12 @@ use mathlib.Core.Logic.{◌⊎◌, inl, inr}
 use Prim.Native.Nat.{ℕ, ◌+◌, ◌-◌, ◌≤◌, ◌<◌}
 use native.Mathlib.Omega.{arith}
 use lib.Dec.{leb}
-use lib.ListN.{length, take, drop, length-append, length-drop}
-use lib.Seq.{length-take-le, drop-drop}
+use lib.ListN.{length, drop, length-append}
 use borrow.Author.Tests.{le-leb, lt-leb, leb-false}
+use Rattle.ascii.specs.declared.output.Output.{Output}
 use Rattle.ascii.specs.Output.{Puts, PutsUpTo}
-use Rattle.ascii.specs.Parts.{first_part}
+use Rattle.ascii.specs.Parts.{first_part, Split}
+use Rattle.ascii.proofs.Fields.{split_long}
 use Rattle.ascii.proofs.Cases.{by_bool}
 use Rattle.ascii.proofs.Putting.{nothing, two_puts, same_long, from_start_lem}
 use Rattle.ascii.specs.Lines.{newline}
@@ -90,101 +91,89 @@ module _ {S : Type 0} (w : Answering S) where
 
   -- ---- the loop
 
-  -- the lines `done` are answered, in `used` bytes of the input and `written` of the output, and s is the state after them; the lines left are
+  -- the lines `done` of an input are answered into an output that was empty at first, and s is the state after them; the lines of the rest are
   -- answered as from here on
-  pub record Going (start : S) (input first out : List ℕ) (s : S) (used written : ℕ) : Type 0 where
-    pub inside : used ≤ length input
-    pub fits : written ≤ length out
+  pub record Going (start : S) (input : List ℕ) (first out : Output) (s : S) (rest : List ℕ) : Type 0 where
+    pub fits : out.at ≤ length out.bytes.now
     pub done : List (List ℕ)
-    pub puts : Puts first out 0 written (printed w start done)
-    pub whole : written ≡ length (printed w start done)
-    pub sized : used ≡ size_of done
+    pub puts : Puts first out (printed w start done)
+    pub whole : out.at ≡ length (printed w start done)
+    pub sized : length input ≡ size_of done + length rest
     pub state : s ≡ after w start done
-    pub left : answered w (length first) start (lines_of input) ≡ done ++ answered w (length first - written) s (lines_of (drop used input))
+    pub left : answered w (length first.bytes.now) start (lines_of input) ≡ done ++ answered w (length first.bytes.now - out.at) s (lines_of rest)
 
-  pub begin : (s : S) (input out : List ℕ) → Going s input out out s 0 0
+  pub begin : (s : S) (input : List ℕ) (out : Output) → out.at ≡ 0 → Going s input out out s input
   unfolding printed after size_of
-  begin s input out =
-      let all : length out ≡ length out - 0 = omega arith in
+  begin s input out empty =
+      let all : length out.bytes.now ≡ length out.bytes.now - out.at = omega (arith, empty) in
       record {
-        inside = omega arith;
-        fits = omega arith;
+        fits = omega (arith, empty);
         done = [];
-        puts = nothing out 0;
-        whole = refl;
-        sized = refl;
+        puts = nothing out;
+        whole = empty;
+        sized = omega arith;
         state = refl;
         left = ap (λ (room : ℕ). answered w room s (lines_of input)) all;
       }
 
   -- what the loop leaves
-  abbrev pub Left : S → List ℕ → List ℕ → List ℕ → S → ℕ → ℕ → Type 0
-  Left start input first out s used written = LinesAnswered w start (answered w (length first) start (lines_of input)) first out s (record { used = used; written = written })
+  abbrev pub Left : S → List ℕ → Output → Output → S → List ℕ → Type 0
+  Left start input first out s rest =
+      LinesAnswered w start (answered w (length first.bytes.now) start (lines_of input)) first.bytes.now out.bytes.now s (record { used = length input - length rest; written = out.at })
 
-  module _ {start : S} {input first out : List ℕ} {s : S} {used written : ℕ} (g : Going start input first out s used written) where
-    pub kept : length out ≡ length first
+  -- the same of the bytes that were lent for it
+  pub lent : {start s : S} (input rest : List ℕ) {before after : List ℕ} (first out : Output) → Left start input first out s rest → first.bytes.now ≡ before → after ≡ out.bytes.now
+      → LinesAnswered w start (answered w (length before) start (lines_of input)) before after s (record { used = length input - length rest; written = out.at })
+  lent input rest first out l same now = rw (now, ← same) l
+
+  module _ {start : S} {input : List ℕ} {first out : Output} {s : S} {rest : List ℕ} (empty : first.at ≡ 0) (g : Going start input first out s rest) where
+    pub kept : length out.bytes.now ≡ length first.bytes.now
     kept = same_long g.puts
 
-    ends : answered w (length first - written) s (lines_of (drop used input)) ≡ [] → Left start input first out s used written
+    ends : answered w (length first.bytes.now - out.at) s (lines_of rest) ≡ [] → Left start input first out s rest
     ends e =
-        let all : answered w (length first) start (lines_of input) ≡ g.done = g.left ∙ rw e (append-nil g.done) in
-        rw all (record { used = g.sized; written = g.whole; fits = omega (arith, g.fits, kept); holds = (from_start_lem g.puts).1; state = g.state })
+        let all : answered w (length first.bytes.now) start (lines_of input) ≡ g.done = g.left ∙ rw e (append-nil g.done) in
+        rw all (record {
+          used = omega (arith, g.sized);
+          written = g.whole;
+          fits = omega (arith, g.fits, kept);
+          holds = (from_start_lem g.puts empty).holds;
+          state = g.state;
+        })
 
-    pub full : length out - written < w.most → Left start input first out s used written
-    full h = ends (no_room (length first - written) s (lines_of (drop used input)) (omega (arith, kept)))
+    pub full : length out.bytes.now - out.at < w.most → Left start input first out s rest
+    full h = ends (no_room (length first.bytes.now - out.at) s (lines_of rest) (omega (arith, kept)))
 
-    module _ {end : ℕ} (e : end ≡ used + length (first_part newline (drop used input))) where
-      pub end_inside : end ≤ length input
-      end_inside = omega (arith, e, g.inside, lines.first_inside newline (drop used input), length-drop used input)
+    pub last : first_part newline rest ≡ rest → Left start input first out s rest
+    last h =
+        let none : lines_of rest ≡ [] = lines.no_line_lem rest (omega (arith, ap length h)) in
+        ends (ap (answered w (length first.bytes.now - out.at) s) none ∙ none_left (length first.bytes.now - out.at) s)
 
-      pub last : end ≡ length input → Left start input first out s used written
-      last h =
-          let none : lines_of (drop used input) ≡ [] = lines.no_line_lem (drop used input) (omega (arith, e, length-drop used input)) in
-          ends (ap (answered w (length first - written) s) none ∙ none_left (length first - written) s)
+    module _ {line behind : List ℕ} (split : Split newline rest line behind) (room : w.most ≤ length out.bytes.now - out.at) {out' : Output}
+        (p : PutsUpTo w.most out out' (w.prints s line)) where
+      now_written : out'.at ≡ out.at + length (w.prints s line)
+      now_written = omega (arith, p.puts.next, p.short, room)
 
-      module _ (more-follows : end ≡ length input → ⊥) where
-        pub before_end : end < length input
-        before_end = omega (arith, end_inside, more-follows)
-
-        abbrev line : List ℕ
-        line = take (end - used) (drop used input)
-
-        next_line : lines_of (drop used input) ≡ line ∷ lines_of (drop (end + 1) input)
-        next_line =
-            let n : end - used ≡ length (first_part newline (drop used input)) = omega (arith, e) in
-            let f = lines.first_line (drop used input) (end - used) n (omega (arith, e, before_end, length-drop used input)) in
-            let d : drop (end - used + 1) (drop used input) ≡ drop (used + (end - used + 1)) input = drop-drop (end - used + 1) used input in
-            let k : used + (end - used + 1) ≡ end + 1 = omega (arith, e) in
-            f ∙ rw (d, k) refl
-
-        line_long : length line ≡ end - used
-        line_long = length-take-le (end - used) (drop used input) (omega (arith, end_inside, length-drop used input))
-
-        module _ (room : w.most ≤ length out - written) {out' : List ℕ} {written' : ℕ} (p : PutsUpTo w.most out out' written written' (w.prints s line)) where
-          now_written : written' ≡ written + length (w.prints s line)
-          now_written = omega (arith, p.puts.next, p.short, room)
-
-          pub step : {s' : S} → s' ≡ w.next s line → Going start input first out' s' (end + 1) written'
-          step {s'} t =
-              let long : length out' ≡ length out = same_long p.puts in
-              let here : printed w (after w start g.done) (line ∷ []) ≡ w.prints s line = rw (← g.state) (printed_one s line) in
-              let a : printed w start (g.done ++ (line ∷ [])) ≡ printed w start g.done ++ w.prints s line
-              = printed_both g.done (line ∷ []) start ∙ ap (λ (x : List ℕ). printed w start g.done ++ x) here in
-              let more = one_more (length first - written) s line (lines_of (drop (end + 1) input)) (omega (arith, kept)) in
-              let r : length first - written - length (w.prints s line) ≡ length first - written' = omega (arith, now_written) in
-              record {
-                inside = omega (arith, before_end);
-                fits = omega (arith, long, now_written, p.short, room, g.fits);
-                done = g.done ++ (line ∷ []);
-                puts = two_puts g.puts p.puts a;
-                whole = now_written ∙ omega (arith, g.whole, ap length a, length-append (printed w start g.done) (w.prints s line));
-                sized = omega (arith, g.sized, lines.size_one g.done line, line_long, e);
-                state = t ∙ sym (after_both g.done (line ∷ []) start ∙ rw (← g.state) (after_one s line));
-                left =
-                    g.left
-                    ∙ ap (λ (ls : List (List ℕ)). g.done ++ answered w (length first - written) s ls) next_line
-                    ∙ rw (more, r, ← t) (sym (append_assoc g.done (line ∷ []) (answered w (length first - written') s' (lines_of (drop (end + 1) input)))));
-              }
+      pub step : {s' : S} → s' ≡ w.next s line → Going start input first out' s' behind
+      step {s'} t =
+          let long : length out'.bytes.now ≡ length out.bytes.now = same_long p.puts in
+          let here : printed w (after w start g.done) (line ∷ []) ≡ w.prints s line = rw (← g.state) (printed_one s line) in
+          let a : printed w start (g.done ++ (line ∷ [])) ≡ printed w start g.done ++ w.prints s line
+          = printed_both g.done (line ∷ []) start ∙ ap (λ (x : List ℕ). printed w start g.done ++ x) here in
+          let more = one_more (length first.bytes.now - out.at) s line (lines_of behind) (omega (arith, kept)) in
+          let r : length first.bytes.now - out.at - length (w.prints s line) ≡ length first.bytes.now - out'.at = omega (arith, now_written) in
+          record {
+            fits = omega (arith, long, now_written, p.short, room, g.fits);
+            done = g.done ++ (line ∷ []);
+            puts = two_puts g.puts p.puts a;
+            whole = now_written ∙ omega (arith, g.whole, ap length a, length-append (printed w start g.done) (w.prints s line));
+            sized = omega (arith, g.sized, lines.size_one g.done line, split_long split);
+            state = t ∙ sym (after_both g.done (line ∷ []) start ∙ rw (← g.state) (after_one s line));
+            left =
+                g.left
+                ∙ ap (λ (ls : List (List ℕ)). g.done ++ answered w (length first.bytes.now - out.at) s ls) (lines.split_line split)
+                ∙ rw (more, r, ← t) (sym (append_assoc g.done (line ∷ []) (answered w (length first.bytes.now - out'.at) s' (lines_of behind))));
+          }
 
   -- no line is lost, and none is answered twice: those answered and those in what is left of the input are all its lines, in order
   pub none_lost : (room : ℕ) (s : S) (input : List ℕ)

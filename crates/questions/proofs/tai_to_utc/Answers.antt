@@ -1,22 +1,16 @@
 -- `questions::tai_to_utc` meets its contract. Assumes nothing.
-use Rattle.std.proofs.Common.{◌≡◌, true, ap, ◌∙◌}
+use Rattle.std.proofs.Common.{sym, ap, ◌∙◌}
+use Rattle.refusals.specs.Refusals.{not_well_formed}
+use Rattle.refusals.proofs.Checks.{required, given_is}
 use Rattle.schedule.specs.Schedule.{well_formed}
 use Rattle.schedule.specs.WordLayout.{meant}
-use Rattle.clock.specs.Known.{last_day}
-use Rattle.clock.specs.Answers.{utc_answer}
-use Rattle.questions.specs.Said.{near_day}
-use Rattle.questions.proofs.LaidOut.{last_meant}
+use Rattle.clock.specs.Question.{tai_to_utc}
 use Rattle.questions.proofs.Said.{utc_said}
 use Rattle.questions.proofs.tai_to_utc.Goals as goal
 
 pub returns : goal.returns
 returns c =
-    let args = c.args in
-    let day_before = c.day_before-last in
-    let expiry_of = c.expiry_of in
-    let utc_on = c.utc_on in
-    let day_in = c.day_in in
-    let near_day_call = c.near_day-near in
-    let words = args.words.now in
-    let is_last : well_formed (meant words) ≡ true → day_before.result ≡ last_day (meant words) = λ w. last_meant words w expiry_of.ensures day_before.ensures in
-    utc_on.ensures ∙ ap utc_answer (utc_said args.x.0 (day_in.ensures is_last) (λ w. near_day_call.ensures ∙ ap (λ last. near_day args.x.0 last) (is_last w)))
+    let same = required (well_formed (meant c.args.words.now)) not_well_formed (sym c.in_ok-list.ensures) in
+    c.utc_on.ensures
+    ∙ utc_said c.args.x.0 c.day_in.ensures c.last_day.ensures c.near_day-near.ensures
+    ∙ ap (λ words. tai_to_utc (meant words) c.args.x.0) (sym (given_is same.1))

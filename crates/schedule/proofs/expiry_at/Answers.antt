@@ -9,6 +9,3 @@ returns-then-month-gt-LAST_MONTH c = sym (ap month_start (omega arith) ∙ start
 
 pub overflow_cast-result : goal.overflow_cast-result
 overflow_cast-result c = omega (arith, c.first_day.ensures, start_to {m = min c.args.month last_month} (omega arith))
-
-pub returns : goal.returns
-returns c = c.first_day.ensures

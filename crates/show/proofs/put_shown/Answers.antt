@@ -1,29 +1,23 @@
 -- `show::put_shown` meets its contract: the words are a list, or they are not. Assumes nothing.
-use native.Mathlib.Omega.{arith}
+use Rattle.std.proofs.Common.{arith}
+use Rattle.schedule.specs.WordLayout.{meant}
+use Rattle.schedule.specs.Schedule.{well_formed}
+use Rattle.schedule.proofs.Cases.{by_bool}
+use Rattle.schedule.proofs.Answers.{listed}
 use Rattle.ascii.proofs.Putting.{few}
-use Rattle.refusals.proofs.Checks.{passed, failed}
 use Rattle.show.specs.Show.{shown}
 use Rattle.show.specs.Private.{shown_from}
 use Rattle.show.proofs.put_shown.Goals as goal
 
-pub returns-then-not-is_list : goal.returns-then-not-is_list
-unfolding shown
-returns-then-not-is_list c =
-    let put_refusal = c.put_refusal in
-    let is_list = c.is_list in
-    let if1 = c.if-not-is_list in
-    few put_refusal.ensures (rw (failed is_list.ensures if1.true)) (omega arith)
-
-pub put_stretches-requires : goal.put_stretches-requires
-put_stretches-requires c =
-    let is_list = c.is_list in
-    let if1 = c.if-not-is_list in
-    passed is_list.ensures if1.false
-
-pub returns : goal.returns
+pub returns-in-Ok : goal.returns-in-Ok
 unfolding shown shown_from
-returns c =
-    let put_stretches = c.put_stretches in
-    let is_list = c.is_list in
-    let if1 = c.if-not-is_list in
-    few put_stretches.ensures (rw (passed is_list.ensures if1.false)) (omega arith)
+returns-in-Ok c =
+    let is = listed (meant c.args.words.now) c.in-Ok.ensures in
+    few c.put_stretches.ensures (rw (is.0, is.1)) (omega arith)
+
+pub returns-in-Err : goal.returns-in-Err
+unfolding shown
+returns-in-Err c =
+    let s = meant c.args.words.now in
+    by_bool (well_formed s) (λ w. absurd (let e = simp w at c.in-Err.ensures in cc))
+    (λ w. few c.put_refusal.ensures (rw w (let e = simp w at c.in-Err.ensures in cc)) (omega arith))
