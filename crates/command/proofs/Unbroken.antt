@@ -7,7 +7,8 @@ use Rattle.ascii.specs.Ascii.{ascii}
 use Rattle.ascii.proofs.Fields.{has_no}
 use Rattle.ascii.proofs.Unbroken.{Unbroken, empty, more, append, either, digit, in_decimal, with_sign_lem, in_refusal}
 use Rattle.calendar.specs.Calendar.{month_start, month_of}
-use Rattle.schedule.specs.Schedule.{Leap, Schedule, expiry_month}
+use Rattle.schedule.specs.declared.Leap.{Leap}
+use Rattle.schedule.specs.Schedule.{Schedule, expiry_month}
 use Rattle.text.specs.Write.{digits, text_from, text_of}
 use Rattle.compare.proofs.Shown.{sign}
 use Rattle.line.specs.declared.words.Word.{Word}

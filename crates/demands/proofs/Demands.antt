@@ -17,7 +17,8 @@ use Rattle.calendar.specs.Calendar.{is_leap_year, month_lengths, days_in_month, 
 use Rattle.calendar.proofs.Laws as calendar
 use Rattle.calendar.proofs.Gregorian as gregorian
 use Rattle.schedule.specs.declared.Sign.TheVariants.{Positive, Negative}
-use Rattle.schedule.specs.Schedule.{Leap, Schedule, blank_schedule, last_leap, rounded_down, leaves_gap, well_formed}
+use Rattle.schedule.specs.declared.Leap.{Leap}
+use Rattle.schedule.specs.Schedule.{Schedule, blank_schedule, last_leap, rounded_down, leaves_gap, well_formed}
 use Rattle.schedule.specs.Rules.{WellFormed, Words, ExtendsBy}
 use Rattle.schedule.specs.WordLayout.{leap_words, words_of, meant}
 use Rattle.schedule.specs.Answers.{Reading, HandsReading, fitting, fitted, writing, written}

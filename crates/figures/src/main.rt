@@ -191,7 +191,9 @@ fn list_b(rt: &HostRuntime) {
 // The first table of document 002, at a day that ends with an inserted second, and the start of the next day.
 fn inserted(rt: &HostRuntime) {
     let words = list_of(b"6+5?");
-    uts_each(rt, "inserted",
+    uts_each(
+        rt,
+        "inserted",
         &words,
         41498,
         &[
@@ -210,7 +212,9 @@ fn inserted(rt: &HostRuntime) {
 // The second, at a day that ends with a deleted second.
 fn deleted(rt: &HostRuntime) {
     let words = list_of(b"6-5?");
-    uts_each(rt, "deleted",
+    uts_each(
+        rt,
+        "deleted",
         &words,
         41498,
         &[
@@ -253,7 +257,9 @@ fn expiries(rt: &HostRuntime) {
 // 10/14: the last day before an expiry within a month, 41360, is known to its end.
 fn last_day(rt: &HostRuntime) {
     let words = expiring(41_360);
-    uts_each(rt, "within UTS",
+    uts_each(
+        rt,
+        "within UTS",
         &words,
         41_359,
         &[86_399_999_999, 86_400_000_000],

@@ -10,7 +10,8 @@ use lib.ListN.{length, length-append, length-map}
 use borrow.Author.Tests.{lt-ltb, le-ltb, le-leb, eqb-true}
 use Rattle.schedule.specs.declared.Sign.{Sign}
 use Rattle.schedule.specs.declared.Sign.TheVariants.{Positive, Negative}
-use Rattle.schedule.specs.Schedule.{Leap, Schedule, month_start, blank_schedule, expiry_month, rounded_down, leaves_gap, well_formed}
+use Rattle.schedule.specs.declared.Leap.{Leap}
+use Rattle.schedule.specs.Schedule.{Schedule, month_start, blank_schedule, expiry_month, rounded_down, leaves_gap, well_formed}
 use Rattle.calendar.specs.Calendar.{starts_month}
 use Rattle.schedule.specs.Answers.{Reading, accepted, with_leap}
 use Rattle.schedule.proofs.Cases.{by_bool}

@@ -8,7 +8,8 @@ use native.Mathlib.Omega.{arith}
 use lib.ListN.{length, get_or, drop, length-append, drop_of_length-le}
 use Rattle.schedule.specs.declared.Sign.{Sign}
 use Rattle.schedule.specs.declared.Sign.TheVariants.{Positive, Negative}
-use Rattle.schedule.specs.Schedule.{Leap, Schedule, no_leap, gap_fits, expiry_month, leaves_gap, well_formed}
+use Rattle.schedule.specs.declared.Leap.{Leap}
+use Rattle.schedule.specs.Schedule.{Schedule, no_leap, gap_fits, expiry_month, leaves_gap, well_formed}
 use Rattle.schedule.proofs.Formed.{in_use}
 use Rattle.schedule.proofs.Gaps.{fits_lt, fits_le, parts}
 use Rattle.schedule.proofs.Rounded.{gaps_to, first_to, later_to, last_to, rounded_gaps}

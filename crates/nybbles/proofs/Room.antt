@@ -8,7 +8,8 @@ use lib.Dec.{eqb}
 use lib.ListN.{length}
 use borrow.Author.Tests.{lt-ltb, le-leb}
 use Rattle.schedule.specs.declared.Sign.TheVariants.{Positive}
-use Rattle.schedule.specs.Schedule.{Leap, Schedule, month_start, expiry_fits, gaps_fit, last_leap, expiry_month, leaves_gap, well_formed}
+use Rattle.schedule.specs.declared.Leap.{Leap}
+use Rattle.schedule.specs.Schedule.{Schedule, month_start, expiry_fits, gaps_fit, last_leap, expiry_month, leaves_gap, well_formed}
 use Rattle.schedule.proofs.Cases.{by_bool}
 use Rattle.schedule.proofs.Gaps.{parts}
 use Rattle.schedule.proofs.Rounded.{rounded_gaps}

@@ -5,7 +5,8 @@ use mathlib.Core.List.{flatten}
 use native.Mathlib.Decide.{dec_lt}
 use borrow.Author.Tests.{lt-leb, eqb-false}
 use Rattle.schedule.specs.declared.Sign.TheVariants.{Positive, Negative}
-use Rattle.schedule.specs.Schedule.{Leap, Schedule, month_start, expiry_month, leaves_gap, well_formed}
+use Rattle.schedule.specs.declared.Leap.{Leap}
+use Rattle.schedule.specs.Schedule.{Schedule, month_start, expiry_month, leaves_gap, well_formed}
 use Rattle.schedule.proofs.Cases.{by_bool}
 use Rattle.nybbles.specs.Codes.{np_of}
 use Rattle.nybbles.specs.Write.{sixes_code, sixteen, sixes, gap_codes, codes_from, is_single, any_single, padded, evened, plain_codes, spelling, pack, nybbles_of}

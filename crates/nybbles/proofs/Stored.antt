@@ -8,7 +8,7 @@ use native.Mathlib.Omega.{arith}
 use lib.Dec.{ltb, leb, eqb}
 use lib.ListN.{length, length-append}
 use borrow.Author.Tests.{ltb-true, ltb-false, lt-ltb, le-ltb, leb-true, leb-false, le-leb, lt-leb, eqb-true, eqb-false, eq-eqb, ne_eqb}
-use Rattle.schedule.specs.Schedule.{Leap}
+use Rattle.schedule.specs.declared.Leap.{Leap}
 use Rattle.schedule.proofs.Cases.{by_bool}
 use Rattle.schedule.proofs.Gaps.{fits_lt}
 use Rattle.schedule.proofs.Rounded.{gaps_to, first_to, later_to}

@@ -2,7 +2,8 @@
 -- Assumes nothing: these are definitions.
 use Rattle.std.specs.Prelude.{ℕ, zero, suc, ◌+◌, ◌*◌, ◌-◌, ◌/◌, ◌%◌, Bool, false, ◌&&◌, ◌||◌, cond, ltb, leb, eqb, length}
 use mathlib.Core.List.{List, [], ◌∷◌, ◌++◌, flatten}
-use Rattle.schedule.specs.Schedule.{Leap, Schedule, expiry_month}
+use Rattle.schedule.specs.declared.Leap.{Leap}
+use Rattle.schedule.specs.Schedule.{Schedule, expiry_month}
 use Rattle.nybbles.specs.Codes.{np_none, np_positive, np_expiry, np_of, in_sixes, in_months}
 
 -- 1MNP and its G

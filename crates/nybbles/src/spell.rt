@@ -1,7 +1,7 @@
 // The written codes of a list, in its one spelling.
 ghost use Rattle.std.specs.Prelude.{◌≡◌, true, ℕ, ◌+◌, ◌≤◌, ◌<◌, List, [], ◌∷◌, ◌++◌, length, take};
 ghost use mathlib.Core.List.{map, flatten};
-ghost use Rattle.schedule.specs.Schedule.{leaves_gap, max_gap};
+ghost use Rattle.schedule.specs.Schedule.{max_gap};
 ghost use Rattle.schedule.specs.WordLayout.{meant};
 ghost use Rattle.nybbles.specs.Codes.{np_of_mark};
 ghost use Rattle.nybbles.specs.Write.{sixes, gap_codes, plain_codes, padded, spelling};
@@ -9,7 +9,7 @@ ghost use Rattle.nybbles.specs.Private.{max_codes, code_of};
 
 use crate::code::Mark;
 use crate::written::WrittenCode;
-use schedule::List;
+use schedule::WritableList;
 use std::marker::Model;
 
 // No list has more written codes: a gap of g months has at most (g + 15) / 16 of them, and there are at most 257 gaps, of 2400 months.
@@ -80,10 +80,10 @@ impl Spelling {
     }
 
     // The codes of a list, not evened yet.
-    fn plain(list: List<'_>) -> Spelling
-        requires { leaves_gap (meant list.words.now) ≡ true }
-        ensures { result ≡ plain_codes (meant list.entry.words.now) }
+    fn plain(can: WritableList<'_>) -> Spelling
+        ensures { result ≡ plain_codes (meant can.entry.list.words.now) }
     {
+        let list = can.list;
         let mut spelling = Spelling::empty();
         let mut last: u32 = 0;
         for i in 0..list.count() {
@@ -121,11 +121,10 @@ impl Spelling {
     }
 
     // The codes of a list.
-    pub(crate) fn of(list: List<'_>) -> Spelling
-        requires { leaves_gap (meant list.words.now) ≡ true }
-        ensures { result ≡ spelling (meant list.entry.words.now) }
+    pub(crate) fn of(can: WritableList<'_>) -> Spelling
+        ensures { result ≡ spelling (meant can.entry.list.words.now) }
     {
-        let mut spelling = Spelling::plain(list);
+        let mut spelling = Spelling::plain(can);
         if spelling.nybble_count() % 2 == 1 {
             spelling.pad();
         }

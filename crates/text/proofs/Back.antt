@@ -11,7 +11,8 @@ use lib.ListN.{length, length-append}
 use borrow.Author.Tests.{ltb-true, ltb-false, lt-ltb, le-leb, ne_eqb}
 use Rattle.schedule.specs.declared.Sign.{Sign}
 use Rattle.schedule.specs.declared.Sign.TheVariants.{Positive, Negative}
-use Rattle.schedule.specs.Schedule.{Leap, Schedule, month_start, blank_schedule, expiry_month, rounded_down, leaves_gap, well_formed}
+use Rattle.schedule.specs.declared.Leap.{Leap}
+use Rattle.schedule.specs.Schedule.{Schedule, month_start, blank_schedule, expiry_month, rounded_down, leaves_gap, well_formed}
 use Rattle.calendar.specs.Calendar.{starts_month}
 use Rattle.calendar.proofs.Laws.{month_most}
 use Rattle.schedule.specs.Answers.{Reading, accepted, with_leap}

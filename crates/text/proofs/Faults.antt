@@ -6,7 +6,8 @@ use borrow.Author.Tests.{eqb-false, lt-leb}
 use Rattle.ascii.specs.Decimal.{decimal}
 use Rattle.schedule.specs.declared.Sign.{Sign}
 use Rattle.schedule.specs.declared.Sign.TheVariants.{Positive, Negative}
-use Rattle.schedule.specs.Schedule.{Leap, Schedule, month_start, blank_schedule}
+use Rattle.schedule.specs.declared.Leap.{Leap}
+use Rattle.schedule.specs.Schedule.{Schedule, month_start, blank_schedule}
 use Rattle.schedule.specs.Answers.{Reading, refusal, with_leap}
 use Rattle.schedule.proofs.Cases.{by_bool, by_cond}
 use Rattle.text.specs.declared.Mark.TheVariants.{Leaps, Expires}

@@ -5,7 +5,8 @@ use native.Mathlib.Decide.{dec_lt}
 use Rattle.ascii.specs.Decimal.{decimal}
 use Rattle.ascii.proofs.Digits.{small, two_digits}
 use Rattle.calendar.proofs.Laws.{month_most}
-use Rattle.schedule.specs.Schedule.{Leap, Schedule, end_day, month_of, gaps_fit, well_formed}
+use Rattle.schedule.specs.declared.Leap.{Leap}
+use Rattle.schedule.specs.Schedule.{Schedule, end_day, month_of, gaps_fit, well_formed}
 use Rattle.schedule.specs.declared.Sign.TheVariants.{Positive}
 use Rattle.schedule.specs.Answers.{Reading}
 use Rattle.schedule.proofs.ByNumber.{reached}

@@ -5,7 +5,8 @@ use mathlib.Core.List.{List, [], ◌∷◌}
 use Prim.Native.Nat.{ℕ, ◌+◌, ◌*◌, ◌-◌, ◌≤◌}
 use native.Mathlib.Omega.{arith}
 use lib.ListN.{length, length-append}
-use Rattle.schedule.specs.Schedule.{Leap, Schedule, expiry_month, well_formed}
+use Rattle.schedule.specs.declared.Leap.{Leap}
+use Rattle.schedule.specs.Schedule.{Schedule, expiry_month, well_formed}
 use Rattle.schedule.proofs.Gaps.{parts}
 use Rattle.text.specs.Write.{text_from, text_of}
 use Rattle.text.proofs.Digits.{few}

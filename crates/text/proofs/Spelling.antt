@@ -13,7 +13,8 @@ use Rattle.std.specs.Prelude.{Some, None}
 use Rattle.schedule.specs.declared.Sign.{Sign}
 use Rattle.schedule.specs.declared.Sign.TheVariants.{Positive, Negative}
 use Rattle.text.specs.declared.Mark.TheVariants.{Leaps, Expires}
-use Rattle.schedule.specs.Schedule.{Leap, Schedule, month_start, blank_schedule}
+use Rattle.schedule.specs.declared.Leap.{Leap}
+use Rattle.schedule.specs.Schedule.{Schedule, month_start, blank_schedule}
 use Rattle.calendar.proofs.Laws.{month_of_start}
 use Rattle.schedule.specs.Answers.{Reading, refusal, accepted, with_leap}
 use Rattle.schedule.proofs.Cases.{by_bool, by_cond}

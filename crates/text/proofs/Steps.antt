@@ -8,7 +8,8 @@ use native.Mathlib.Numerals.{add-one}
 use native.Mathlib.Omega.{arith}
 use lib.ListN.{length, get_or, take, drop, set, length-append, drop_of_length-le}
 use lib.Seq.{sets, sets-eq, length-take-le, take_at}
-use Rattle.schedule.specs.Schedule.{Leap, Schedule, no_leap, gap_fits, expiry_month, leaves_gap, well_formed}
+use Rattle.schedule.specs.declared.Leap.{Leap}
+use Rattle.schedule.specs.Schedule.{Schedule, no_leap, gap_fits, expiry_month, leaves_gap, well_formed}
 use Rattle.schedule.proofs.Formed.{in_use}
 use Rattle.schedule.proofs.Gaps.{fits_lt, fits_le}
 use Rattle.schedule.proofs.Rounded.{gaps_to, first_to, later_to, last_to, rounded_gaps}

@@ -1,7 +1,8 @@
 -- "The text list": the one text of a schedule.
 -- Assumes nothing: these are definitions.
 use Rattle.std.specs.Prelude.{ℕ, ◌+◌, ◌-◌, ◌/◌, ◌%◌, cond, List, [], ◌∷◌, ◌++◌, ltb}
-use Rattle.schedule.specs.Schedule.{Leap, Schedule, expiry_month}
+use Rattle.schedule.specs.declared.Leap.{Leap}
+use Rattle.schedule.specs.Schedule.{Schedule, expiry_month}
 use Rattle.text.specs.Bytes.{zero_byte, sign_byte, end_byte}
 
 -- a gap of 1 to 999 in decimal with no leading zero

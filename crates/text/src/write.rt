@@ -1,12 +1,12 @@
 // The text of a list.
 ghost use Rattle.std.specs.Prelude.{◌≡◌, true, ℕ, ◌+◌, ◌≤◌, List, [], ◌++◌, length, take};
-ghost use Rattle.schedule.specs.Schedule.{leaves_gap, max_gap};
+ghost use Rattle.schedule.specs.Schedule.{max_gap};
 ghost use Rattle.schedule.specs.WordLayout.{meant};
 ghost use Rattle.text.specs.Write.{marked, text_of};
 ghost use Rattle.text.specs.Private.{max_text};
 
 use crate::sign_byte;
-use schedule::List;
+use schedule::WritableList;
 use std::marker::Model;
 
 // No list has a longer text (`at_most_752`).
@@ -63,10 +63,10 @@ impl Text {
     }
 
     // The text of a list whose expiry is rounded down to a month.
-    pub(crate) fn of(list: List<'_>) -> Text
-        requires { leaves_gap (meant list.words.now) ≡ true }
-        ensures { result ≡ text_of (meant list.entry.words.now) }
+    pub(crate) fn of(can: WritableList<'_>) -> Text
+        ensures { result ≡ text_of (meant can.entry.list.words.now) }
     {
+        let list = can.list;
         let mut text = Text::empty();
         let mut last: u32 = 0;
         for i in 0..list.count() {

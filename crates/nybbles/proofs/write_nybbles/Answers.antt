@@ -14,9 +14,6 @@ returns-in_err-list c =
     let e = answers.refused s (nybbles_of s) c.args.out.now c.args.words.now c.in_err-list.ensures in
     search rules
 
-pub of-spelling-requires : goal.of-spelling-requires
-of-spelling-requires c = let can = answers.writable_lem (meant c.args.words.now) c.in_ok-list.ensures in rw can.2 can.1
-
 pub returns-then-out-count : goal.returns-then-out-count
 returns-then-out-count c =
     let can = answers.writable_lem (meant c.args.words.now) c.in_ok-list.ensures in
@@ -24,7 +21,7 @@ returns-then-out-count c =
 
 pub put_codes-requires : goal.put_codes-requires
 put_codes-requires c =
-    let s = meant c.in_ok-list.list.words.now in
+    let s = meant c.in_ok-list.list.list.words.now in
     let held = c.codes.ensures.0 ∙ c.of-spelling.ensures in (
       c.codes.ensures.1,
       rw held (packed.bytes_low s),

@@ -17,9 +17,6 @@ returns-in_err-writable c =
     let e = answers.refused s (text_of s) c.args.out.now c.args.words.now c.in_err-writable.ensures in
     search rules
 
-pub of-text-requires : goal.of-text-requires
-of-text-requires c = let can = answers.writable_lem (meant c.args.words.now) c.in_ok-writable.ensures in rw can.2 can.1
-
 pub returns-then-out-count : goal.returns-then-out-count
 returns-then-out-count c =
     let can = answers.writable_lem (meant c.args.words.now) c.in_ok-writable.ensures in

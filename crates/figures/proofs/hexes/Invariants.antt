@@ -1,9 +1,0 @@
--- The loop goes over the 64 bytes.
-use Rattle.std.proofs.Common.{◌-◌, ◌≤◌}
-use Rattle.figures.proofs.hexes.Given as goal
-
-abbrev pub invariant-loop-i : goal.invariant-loop-i
-invariant-loop-i l = l.i ≤ 64
-
-abbrev pub decreases-loop-i : goal.decreases-loop-i
-decreases-loop-i l = 64 - l.i
