@@ -3,3 +3,4 @@ pub mod Replay
 pub mod Runs
 pub mod Times
 pub mod Private
+pub mod Said
