@@ -3,4 +3,3 @@ pub mod Replay
 pub mod Runs
 pub mod Times
 pub mod Private
-pub mod Said

@@ -1,12 +1,14 @@
--- What only private functions are held to. No public contract and no promise speaks of these.
+-- What only private functions are held to. No public contract and no promise speaks of this.
 -- Assumes nothing: these are definitions.
-use Rattle.std.specs.Prelude.{ℕ, ◌≡◌, List}
-use Rattle.ascii.specs.declared.output.Output.{Output}
-use Rattle.ascii.specs.Output.{PutsUpTo}
-use Rattle.text.specs.Read.{read_text}
-use Rattle.replay.specs.Replay.{numbered, read_over, shown, max_printed}
+use Rattle.std.specs.Prelude.{Option, Some, None}
+use Rattle.replay.specs.declared.meaning.Said.{Said}
+use Rattle.replay.specs.declared.meaning.Said.TheVariants.{Use, Store, Reset, Ask}
+use Rattle.replay.specs.Trace.{Line, list, store, reset, question, other}
 
--- what using a list leaves
-pub record ListUsed (bytes words words' : List ℕ) (out out' : Output) : Type 0 where
-  pub puts : PutsUpTo max_printed out out' (shown (numbered (read_text bytes).number))
-  pub current : words' ≡ read_over bytes words
+-- what a line says, of what the code has of it
+abbrev pub said : Option Said → Line
+said (Some (Use bytes)) = list bytes.now
+said (Some Store) = store
+said (Some Reset) = reset
+said (Some (Ask day t)) = question day t.0
+said None = other

@@ -7,11 +7,11 @@ ghost use Rattle.clock.specs.Answers.{uts_count};
 ghost use Rattle.refusals.specs.Answer.{answer_by, answer_of};
 ghost use Rattle.refusals.specs.Refusals.{number_of};
 ghost use Rattle.schedule.specs.Answers.{fitting, fitted};
+ghost use Rattle.text.specs.Read.{read_text};
 ghost use Rattle.stream.specs.Lines.{lines_of};
 ghost use Rattle.stream.specs.Stream.{answered, LinesAnswered};
 ghost use Rattle.replay.specs.Trace.{meaning};
-ghost use Rattle.replay.specs.Replay.{State, time, refuse, on_day, shown, unended, replaying};
-ghost use Rattle.replay.specs.Private.{ListUsed};
+ghost use Rattle.replay.specs.Replay.{State, time, refuse, on_day, numbered, read_over, shown, unended, replaying};
 
 mod meaning; // meaning.rt: what a line says
 
@@ -61,8 +61,10 @@ struct Lists<'a> {
 }
 
 // Makes a text list the current one, or puts its refusal.
+#[tactic(auto, unfolding(crate::specs::Replay::shown), using(ascii::proofs::Putting::nothing))]
 fn use_list(list: &[u8], current: &mut [u32; 514], out: &mut Output<'_>)
-    ensures { ListUsed list.now current.old current.new out.old out.new }
+    ensures puts { PutsUpTo 22 out.old out.new (shown (numbered (read_text list.now).number)) }
+    ensures current { current.new ≡ read_over list.now current.old }
 {
     let mut words = [0u32; 514];
     match text::read_text(list, &mut words) {
@@ -123,7 +125,7 @@ pub fn replay_end(left: &[u8], out: &mut [u8]) -> Result<usize, Refusal>
     if out.len() < NO_LINE_BYTES {
         return Err(Refusal::OutputShort);
     }
-    let mut output = Output::new(out, true);
+    let mut output = Output::new(out, false);
     put_refused(&mut output, Refusal::NoLine);
     Ok(output.at)
 }

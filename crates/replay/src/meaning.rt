@@ -3,7 +3,7 @@ ghost use Rattle.std.specs.Prelude.{◌≡◌};
 ghost use Rattle.ascii.specs.Parts.{parts};
 ghost use Rattle.ascii.specs.Lines.{space_byte};
 ghost use Rattle.replay.specs.Trace.{short_number, question_of, line_of, meaning};
-ghost use Rattle.replay.specs.Said.{said};
+ghost use Rattle.replay.specs.Private.{said};
 
 use ascii::decimal::read_decimal;
 use ascii::parts::split_once;
