@@ -6,7 +6,6 @@ use mathlib.Core.List.{List, [], ◌∷◌}
 use native.Mathlib.Omega.{arith}
 use lib.ListN.{length}
 use lib.Seq.{take_all}
-use lib.Dec.{leb}
 use borrow.Author.Tests.{eqb-true, le-leb}
 use Rattle.std.specs.Prelude.{◌==◌}
 use Rattle.ascii.specs.Decimal.{decimal, digits_in}

@@ -53,13 +53,6 @@ fn put_smoothed(out: &mut Output<'_>, day: u64, answer: Result<UtsNanos, Refusal
     }
 }
 
-// The current list and the stored one, lent.
-#[derive(Drop)]
-struct Lists<'a> {
-    current: &'a mut [u32; 514],
-    stored: &'a mut [u32; 514],
-}
-
 // Makes a text list the current one, or puts its refusal.
 #[tactic(auto, unfolding(crate::specs::Replay::shown), using(ascii::proofs::Putting::nothing))]
 fn use_list(list: &[u8], current: &mut [u32; 514], out: &mut Output<'_>)
@@ -71,6 +64,13 @@ fn use_list(list: &[u8], current: &mut [u32; 514], out: &mut Output<'_>)
         Ok(()) => *current = words,
         Err(error) => put_refused(out, error.refusal),
     }
+}
+
+// The current list and the stored one, lent.
+#[derive(Drop)]
+struct Lists<'a> {
+    current: &'a mut [u32; 514],
+    stored: &'a mut [u32; 514],
 }
 
 impl Responder for Lists<'_> {
