@@ -1,6 +1,6 @@
 -- The leaps of a list that lie before a month, and those at or after it.
 -- Assumes nothing.
-use Rattle.std.proofs.Common.{◌≡◌, ℕ, ◌+◌, ◌≤◌, ◌<◌, min, true, false, cond, eqb, ltb, Option, Some, None, List, [], ◌∷◌, length, refl, sym, ap, ap₂, ◌∙◌, arith, eqb-true, eq-eqb, ne_eqb}
+use Rattle.std.proofs.Common.{◌≡◌, ℕ, ◌+◌, ◌≤◌, ◌<◌, true, false, cond, eqb, ltb, Option, Some, None, List, [], ◌∷◌, length, refl, sym, ap, ap₂, ◌∙◌, arith, eqb-true, eq-eqb, ne_eqb}
 use Rattle.std.specs.Iterator.{YieldsFirst}
 use borrow.Author.Tests.{eqb-false}
 use Rattle.ascii.specs.Ascii.{zero_byte}
@@ -11,7 +11,7 @@ use Rattle.schedule.specs.Left.{left}
 use Rattle.schedule.proofs.Cases.{by_bool}
 use Rattle.schedule.proofs.Gaps.{fits_lt, first, later, parts}
 use Rattle.text.specs.Bytes.{end_byte}
-use Rattle.compare.specs.Compare.{leap_mark, is_unknown, mark}
+use Rattle.compare.specs.Compare.{leap_mark, mark}
 use Rattle.compare.specs.Private.{past_months, first_month, last_known, first_mark, mark_ahead, next_of, passed}
 use Rattle.compare.proofs.Marks.{sign_some, none_yet}
 use Rattle.compare.proofs.Places.{unknown_after}

@@ -1,10 +1,10 @@
 -- Bytes that were put into a local output with room for them, and are then copied to the caller's, if they fit. Assumes nothing.
-use Rattle.std.proofs.Common.{◌≡◌, ℕ, ◌+◌, ◌≤◌, ◌<◌, true, List, [], ◌∷◌, ◌++◌, length, take, drop, refl, sym, ap, ◌∙◌, arith}
-use lib.Seq.{sets, sets-eq}
+use Rattle.std.proofs.Common.{◌≡◌, ℕ, ◌+◌, ◌≤◌, ◌<◌, true, List, [], ◌∷◌, ◌++◌, length, take, drop, sym, ap, ◌∙◌, arith}
+use lib.Seq.{sets-eq}
 use Rattle.refusals.specs.Answer.{given, refused}
 use Rattle.refusals.specs.Refusals.{output_short}
 use Rattle.ascii.specs.declared.output.Output.{Output}
-use Rattle.ascii.specs.Output.{Puts, PutsUpTo}
+use Rattle.ascii.specs.Output.{Puts}
 use Rattle.ascii.proofs.Putting.{both, one_put, from_start_lem, whole}
 use Rattle.schedule.specs.Schedule.{Schedule, well_formed}
 use Rattle.schedule.proofs.Answers.{Fits, fits, no_room}

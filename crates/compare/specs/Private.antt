@@ -1,6 +1,6 @@
 -- What only private functions are held to. No public contract and no promise speaks of these.
 -- Assumes nothing: these are definitions.
-use Rattle.std.specs.Prelude.{ℕ, zero, suc, ◌+◌, ◌-◌, ◌≡◌, Bool, cond, Option, Some, None, List, [], ◌∷◌, ◌++◌, eqb, nat_lt}
+use Rattle.std.specs.Prelude.{ℕ, zero, suc, ◌+◌, ◌-◌, Bool, cond, Option, Some, None, List, [], ◌∷◌, ◌++◌, eqb, nat_lt}
 use Rattle.refusals.specs.Answer.{Answer, given, refused}
 use Rattle.ascii.specs.Ascii.{ascii, zero_byte}
 use Rattle.ascii.specs.Decimal.{decimal}
