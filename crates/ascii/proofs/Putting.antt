@@ -2,12 +2,14 @@
 -- Assumes nothing.
 use mathlib.Core.Path.{◌≡◌, refl, sym, ap, ◌∙◌}
 use mathlib.Core.List.{List, [], ◌∷◌, ◌++◌, append-nil, append_assoc}
-use Prim.Native.Nat.{ℕ, suc, ◌+◌, ◌*◌, ◌≤◌, ◌<◌}
+use Prim.Native.Nat.{ℕ, min, ◌-◌, suc, ◌+◌, ◌*◌, ◌≤◌, ◌<◌}
 use native.Mathlib.Nat.{add-zero, zero-add, add-suc, suc-add}
 use native.Mathlib.Omega.{arith}
 use native.Mathlib.Decide.{dec_le}
 use lib.ListN.{length, take, drop, set, length-append, drop_of_length-le, take-append-drop}
 use lib.Seq.{sets, length-sets, sets-eq, set_out, take_all, length-take-le, take-append_seam}
+use Rattle.std.proofs.Common.{drop-drop}
+use borrow.Rule.Slice.PartMut.{put_mid}
 use Rattle.ascii.specs.declared.output.Output.{Output}
 use Rattle.ascii.specs.Output.{Puts, PutsUpTo, filled, Held}
 
@@ -28,18 +30,41 @@ nothing out = record { same_buffer = refl; same_lines = refl; stored = refl; nex
 pub same_long : {out out' : Output} {bytes : List ℕ} → Puts out out' bytes → length out'.bytes.now ≡ length out.bytes.now
 same_long {out} {out'} {bytes} p = ap length p.stored ∙ length-sets out.bytes.now out.at bytes
 
--- a byte is put where there is room, and none where there is not
-module _ {out out' : Output} {b : ℕ} (same_buffer : out'.bytes.ghost_name ≡ out.bytes.ghost_name) (same_lines : out'.lines ≡ out.lines) where
-  pub one : out.at < length out.bytes.now → out'.bytes.now ≡ set out.bytes.now out.at b → out'.at ≡ out.at + 1 → Puts out out' (b ∷ [])
-  one h e f = record { same_buffer = same_buffer; same_lines = same_lines; stored = e; next = omega (arith, f) }
+-- as many bytes are put as there is room for
+pub none_fit : (out : Output) (bytes : List ℕ) → length out.bytes.now ≤ out.at → Puts out out bytes
+none_fit out bytes h = record { same_buffer = refl; same_lines = refl; stored = sym (sets_out bytes out.bytes.now out.at h); next = omega arith }
 
-  pub no_room : length out.bytes.now ≤ out.at → out'.bytes.now ≡ out.bytes.now → out'.at ≡ out.at → Puts out out' (b ∷ [])
-  no_room h e f = record {
-    same_buffer = same_buffer;
-    same_lines = same_lines;
-    stored = e ∙ sym (set_out out.bytes.now out.at b h);
-    next = omega (arith, f);
-  }
+cut_sets : (bytes l : List ℕ) (i n : ℕ) → i < length l → n ≡ min (length bytes) (length l - i) → sets l i bytes ≡ take i l ++ take n bytes ++ drop (i + n) l
+cut_sets bytes l i n h e =
+    let cut = take n bytes in
+    let some : length cut ≡ n = length-take-le n bytes (omega (arith, e)) in
+    elim (dec_le (length bytes) (length l - i)) [
+      | yes g ↦
+          let all : n ≡ length bytes = omega (arith, e) in
+          rw (all, take_all (length bytes) bytes (omega arith)) (sets-eq bytes l i (omega arith))
+      | no g ↦
+          ap (sets l i) (sym (take-append-drop n bytes))
+          ∙ sets_append cut (drop n bytes) l i
+          ∙ sets_out (drop n bytes) (sets l i cut) (i + length cut) (omega (arith, some, e, length-sets l i cut))
+          ∙ sets-eq cut l i (omega (arith, some, e))
+          ∙ rw some
+    ]
+
+pub some_fit : {out out' : Output} {bytes stored : List ℕ} {n : ℕ} → out'.bytes.ghost_name ≡ out.bytes.ghost_name → out'.lines ≡ out.lines
+    → out.at < length out.bytes.now → n ≡ min (length bytes) (length out.bytes.now - out.at) → stored ≡ take n bytes
+    → out'.bytes.now ≡ put_mid out.at (out.at + n - out.at) out.bytes.now stored → out'.at ≡ out.at + n → Puts out out' bytes
+some_fit {out} {out'} {bytes} {stored} {n} g l h e k f a = record {
+  same_buffer = g;
+  same_lines = l;
+  stored = f ∙ fitted;
+  next = a ∙ ap (λ (k : ℕ). out.at + k) e;
+}
+  where
+    fitted : put_mid out.at (out.at + n - out.at) out.bytes.now stored ≡ sets out.bytes.now out.at bytes
+    fitted =
+        let was = out.bytes.now in
+        let count : out.at + n - out.at ≡ n = omega arith in
+        rw (k, count, drop-drop) (sym (append_assoc (take out.at was) (take n bytes) (drop (out.at + n) was))) ∙ sym (cut_sets bytes was out.at n h e)
 
 -- bytes, and then others
 pub both : {out out' out'' : Output} {xs ys : List ℕ} → Puts out out' xs → Puts out' out'' ys → Puts out out'' (xs ++ ys)
@@ -125,17 +150,13 @@ one_put p e = rw e p
 pub two_puts : {out out' out'' : Output} {xs ys bytes : List ℕ} → Puts out out' xs → Puts out' out'' ys → bytes ≡ xs ++ ys → Puts out out'' bytes
 two_puts p q e = rw e (both p q)
 
--- a byte that is x is put, alone or after others
+-- a byte that is x is put
 pub put_byte : {out out' : Output} {bytes : List ℕ} {b x : ℕ} → Puts out out' (b ∷ []) → b ≡ x → bytes ≡ x ∷ [] → Puts out out' bytes
 put_byte p e f = rw (f, ← e) p
 
-pub then_byte : {out out' out'' : Output} {xs bytes : List ℕ} {b x : ℕ} → Puts out out' xs → Puts out' out'' (b ∷ []) → b ≡ x → bytes ≡ xs ++ (x ∷ [])
-    → Puts out out'' bytes
-then_byte p q e f = rw (f, ← e) (both p q)
-
 -- two bytes that are x and y
-pub two_bytes : {out out' out'' : Output} {b c x y : ℕ} → Puts out out' (b ∷ []) → b ≡ x → Puts out' out'' (c ∷ []) → c ≡ y → Puts out out'' (x ∷ y ∷ [])
-two_bytes p e q f = rw (← e, ← f) (both p q)
+pub both_bytes : {out out' : Output} {b c x y : ℕ} → Puts out out' (b ∷ c ∷ []) → b ≡ x → c ≡ y → Puts out out' (x ∷ y ∷ [])
+both_bytes p e f = rw (← e, ← f) p
 
 -- a byte whose halves are x and y
 pub put_pair_of : {out out' : Output} {a b x y : ℕ} → Puts out out' ((a * 16 + b) ∷ []) → a ≡ x → b ≡ y → Puts out out' ((x * 16 + y) ∷ [])

@@ -5,4 +5,3 @@ pub mod Hex
 pub mod Parts
 pub mod Lines
 pub mod Refusal
-pub mod Private

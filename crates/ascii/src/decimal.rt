@@ -2,7 +2,6 @@
 ghost use Rattle.std.specs.Prelude.{◌≡◌, ◌<◌};
 ghost use Rattle.ascii.specs.Output.{Puts, PutsUpTo};
 ghost use Rattle.ascii.specs.Decimal.{digit, decimal, pair, signed, with_sign, is_digit, number_of};
-ghost use Rattle.ascii.specs.Private.{eight};
 
 use crate::output::Output;
 
@@ -19,36 +18,28 @@ impl Output<'_> {
     pub fn put_pair(&mut self, n: u64)
         ensures { Puts self.old self.new (pair n) }
     {
-        self.put(digit(n / 10 % 10));
-        self.put(digit(n % 10));
+        self.put_both(digit(n / 10 % 10), digit(n % 10));
     }
 
-    // Puts the last eight digits of a number.
-    fn put_eight(&mut self, n: u64)
-        ensures { Puts self.old self.new (eight n) }
-    {
-        self.put_pair(n / 1_000_000);
-        self.put_pair(n / 10_000);
-        self.put_pair(n / 100);
-        self.put_pair(n);
-    }
-
-    // Puts a number, with no leading zero. By two digits at a time, and eight of a long number, since calls and divisions take longer than
-    // digits.
+    // Puts a number, with no leading zero. By two digits at a time, and all at once, since divisions and stores take longer than digits.
     pub fn put_decimal(&mut self, n: u64)
         ensures { PutsUpTo 20 self.old self.new (decimal n) }
     {
-        if n < 10 {
-            self.put(digit(n));
-        } else if n < 100 {
-            self.put_pair(n);
-        } else if n < 100_000_000 {
-            self.put_decimal(n / 100);
-            self.put_pair(n);
-        } else {
-            self.put_decimal(n / 100_000_000);
-            self.put_eight(n);
+        let mut digits = [0u8; 20];
+        let mut first = 20;
+        let mut rest = n;
+        while 100 <= rest {
+            first -= 2;
+            digits[first] = digit(rest / 10 % 10);
+            digits[first + 1] = digit(rest % 10);
+            rest /= 100;
         }
+        if rest < 10 {
+            self.put(digit(rest));
+        } else {
+            self.put_pair(rest);
+        }
+        self.put_all(&digits[first..]);
     }
 
     // Puts an integer, with `-` if it is below zero.

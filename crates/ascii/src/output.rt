@@ -36,12 +36,27 @@ impl<'a> Output<'a> {
         }
     }
 
+    // Puts two bytes.
+    pub(crate) fn put_both(&mut self, first: u8, second: u8)
+        ensures { Puts self.old self.new (first ∷ second ∷ []) }
+    {
+        if 1 < self.bytes.len().saturating_sub(self.at) {
+            self.bytes[self.at] = first;
+            self.bytes[self.at + 1] = second;
+            self.at += 2;
+        } else {
+            self.put(first);
+        }
+    }
+
     // Puts bytes.
     pub fn put_all(&mut self, bytes: &[u8])
         ensures { Puts self.old self.new bytes.now }
     {
-        for b in bytes {
-            self.put(*b);
+        if self.at < self.bytes.len() {
+            let n = bytes.len().min(self.bytes.len() - self.at);
+            self.bytes[self.at..self.at + n].copy_from_slice(&bytes[..n]);
+            self.at += n;
         }
     }
 }

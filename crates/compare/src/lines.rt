@@ -78,8 +78,8 @@ impl TwoLists<'_> {
     fn put(self, out: &mut Output<'_>)
         ensures { PutsUpTo 5147 out.old out.new (comparison out.old.lines (meant self.entry.first.words.now) (meant self.entry.second.words.now)) }
     {
-        let over = schedule::goes_on(self.first, self.second);
-        let under = schedule::goes_on(self.second, self.first);
+        let over = self.first.extends(self.second);
+        let under = self.second.extends(self.first);
         self.put_differences(out);
         self.put_expiries(out);
         put_relation(out, over, under);

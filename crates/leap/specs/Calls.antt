@@ -3,19 +3,18 @@
 -- Assumes nothing: these are definitions.
 use Rattle.std.specs.Prelude.{ℕ, ◌≡◌, Bool, true, false, cond, List, ltb, length}
 use Rattle.refusals.specs.Refusals.{output_short, not_well_formed}
-use Rattle.schedule.specs.declared.Writing.{Writing}
 use Rattle.schedule.specs.Schedule.{Schedule, well_formed}
 use Rattle.schedule.specs.Answers.{writing, written}
 use Rattle.schedule.specs.Extends.{extends}
-use Rattle.refusals.specs.Answer.{Answer, given, require}
+use Rattle.refusals.specs.Answer.{Answer, given, require, or_zero, number as number_of}
 use Rattle.stream.specs.Lines.{lines_of}
 use Rattle.stream.specs.Stream.{answered, LinesAnswered}
 use Rattle.replay.specs.Replay.{State, max_printed, replaying}
 
--- what was written is handed over: the number, the count of bytes, and what the output then holds
-pub record HandsBytes (w : Writing) (bytes : List ℕ) (number count : ℕ) (after : List ℕ) : Type 0 where
-  pub its_number : number ≡ w.number
-  pub its_count : count ≡ w.count
+-- what was written is handed over: the number, the count of bytes, 0 where it is refused, and what the output then holds
+pub record HandsBytes (w : Answer ℕ) (bytes : List ℕ) (number count : ℕ) (after : List ℕ) : Type 0 where
+  pub its_number : number ≡ number_of w
+  pub its_count : count ≡ or_zero 0 w
   pub its_bytes : after ≡ bytes
 
 -- what a writer hands over: the answer and the output of writing `list`, the list of a schedule, to an output that held `before`

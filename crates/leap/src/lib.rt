@@ -1,7 +1,7 @@
 // The calls of the C interface, which the crate leap_c hands to C under the same names. A schedule is the C struct leap_schedule, 514 words; include/leap.h says what each function answers.
 #![tactic(auto)]
 
-ghost use Rattle.std.specs.Prelude.{length, pos};
+ghost use Rattle.std.specs.Prelude.{◌≡◌, length, pos};
 ghost use Rattle.text.specs.Read.{read_text};
 ghost use Rattle.text.specs.Write.{text_of};
 ghost use Rattle.nybbles.specs.Read.{read_nybbles};
@@ -9,12 +9,12 @@ ghost use Rattle.nybbles.specs.Write.{nybbles_of};
 ghost use Rattle.compare.specs.Compare.{comparing, compared_into};
 ghost use Rattle.compare.specs.Longer.{chosen, HandsBack};
 ghost use mathlib.Core.List.{map, zip_with};
+ghost use Rattle.refusals.specs.Answer.{answer_of};
 ghost use Rattle.clock.specs.Answers.{HandsValue, HandsUtc};
 ghost use Rattle.many.specs.Many.{HandsMany, HandsManyUtc};
 ghost use Rattle.clock.specs.Question.{dtai_on, utc_to_tai, tai_to_utc, utc_to_uts, uts_to_utc};
 ghost use Rattle.schedule.specs.WordLayout.{meant};
-ghost use Rattle.schedule.specs.Answers.{HandsReading};
-ghost use Rattle.schedule.specs.Answers.{fitting, fitted};
+ghost use Rattle.schedule.specs.Answers.{HandsReading, number_in, place_in, fitting, fitted};
 ghost use Rattle.replay.specs.Replay.{unended};
 ghost use Rattle.leap.specs.Calls.{HandsBytes, HandsWriting, HandsReplay, extension};
 
@@ -106,22 +106,20 @@ pub fn leap_longer_text<'a>(first: &'a [u8], second: &'a [u8], part: &mut &'a [u
     number
 }
 
+// 1 where the first list extends the second, else 0; 11 unless both are lists.
+fn extension(longer: &[u32; 514], shorter: &[u32; 514]) -> Result<u8, Refusal>
+    ensures { answer_of result ≡ extension (meant longer.now) (meant shorter.now) }
+{
+    let longer = List::of(longer)?;
+    let shorter = List::of(shorter)?;
+    Ok(u8::from(longer.extends(shorter)))
+}
+
 // Whether a list extends another.
 pub fn leap_extends(longer: &[u32; 514], shorter: &[u32; 514], yes: &mut u8) -> u8
     ensures { HandsValue 0 (extension (meant longer.now) (meant shorter.now)) result yes.new }
 {
-    if schedule::extends(longer, shorter) {
-        *yes = 1;
-        return 0;
-    }
-    *yes = 0;
-    if !schedule::is_list(longer) {
-        return NOT_WELL_FORMED;
-    }
-    if !schedule::is_list(shorter) {
-        return NOT_WELL_FORMED;
-    }
-    0
+    hand(extension(longer, shorter), 0, yes)
 }
 
 // DTAI for a date.
@@ -248,7 +246,7 @@ pub fn leap_replay(
     *used = step.used as u64;
     *written = step.written as u64;
     if room < replay::MAX_PRINTED {
-        return refusals::OUTPUT_SHORT;
+        return Refusal::OutputShort.number();
     }
     0
 }
@@ -257,7 +255,5 @@ pub fn leap_replay(
 pub fn leap_replay_end(left: &[u8], out: &mut [u8], written: &mut u64) -> u8
     ensures { HandsBytes (fitting (unended left.now) (length out.old)) (fitted (unended left.now) out.old) result written.new out.new }
 {
-    let w = replay::replay_end(left, out);
-    *written = w.count as u64;
-    w.number
+    hand_count(replay::replay_end(left, out), written)
 }

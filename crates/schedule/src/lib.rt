@@ -163,29 +163,6 @@ pub fn is_expired(expiry: u32, month: u32) -> bool
     expiry <= expiry_at(month)
 }
 
-// Whether a list goes on from another: it has the other's leaps first, and then, at the other's expiry or after it, its own.
-pub fn goes_on(longer: List<'_>, shorter: List<'_>) -> bool
-    ensures { result ≡ extends (meant longer.entry.words.now) (meant shorter.entry.words.now) }
-{
-    let expiry = shorter.expiry();
-    if longer.expiry() < expiry {
-        return false;
-    }
-    let m = shorter.count();
-    let n = longer.count();
-    if n < m {
-        return false;
-    }
-    let (all, first) = (longer.words, shorter.words);
-    if all[..2 * m] != first[..2 * m] {
-        return false;
-    }
-    if m < n {
-        return is_expired(expiry, longer.month(m));
-    }
-    true
-}
-
 // Whether both are lists and the first extends the second; any words at all may be given.
 pub fn extends(longer: &[u32; 514], shorter: &[u32; 514]) -> bool
     ensures { result ≡ (well_formed (meant longer.now) && well_formed (meant shorter.now) && extends (meant longer.now) (meant shorter.now)) }
@@ -196,5 +173,5 @@ pub fn extends(longer: &[u32; 514], shorter: &[u32; 514]) -> bool
     let Ok(shorter) = List::of(shorter) else {
         return false;
     };
-    goes_on(longer, shorter)
+    longer.extends(shorter)
 }

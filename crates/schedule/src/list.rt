@@ -3,10 +3,11 @@ ghost use Rattle.std.specs.Prelude.{◌≡◌, true, length, slice_index_or};
 ghost use Rattle.refusals.specs.Answer.{given, require, answer_by};
 ghost use Rattle.refusals.specs.Refusals.{not_well_formed};
 ghost use Rattle.schedule.specs.Schedule.{no_leap, last_leap, expiry_month, leaves_gap, well_formed};
+ghost use Rattle.schedule.specs.Extends.{extends};
 ghost use Rattle.schedule.specs.WordLayout.{meant};
 ghost use Rattle.schedule.specs.Answers.{writable};
 
-use crate::{Sign, count_of, expiry_of, is_list, month_at, sign_at};
+use crate::{Sign, count_of, expiry_of, is_expired, is_list, month_at, sign_at};
 use refusals::Refusal;
 
 // The words of a well-formed schedule.
@@ -71,6 +72,29 @@ impl<'a> List<'a> {
             return 0;
         }
         self.month(n - 1)
+    }
+
+    // Whether it extends another list: it has the other's leaps first, and then, at the other's expiry or after it, its own.
+    pub fn extends(self, shorter: List<'_>) -> bool
+        ensures { result ≡ extends (meant self.entry.words.now) (meant shorter.entry.words.now) }
+    {
+        let expiry = shorter.expiry();
+        if self.expiry() < expiry {
+            return false;
+        }
+        let m = shorter.count();
+        let n = self.count();
+        if n < m {
+            return false;
+        }
+        let (all, first) = (self.words, shorter.words);
+        if all[..2 * m] != first[..2 * m] {
+            return false;
+        }
+        if m < n {
+            return is_expired(expiry, self.month(m));
+        }
+        true
     }
 }
 

@@ -9,4 +9,4 @@ unfolding comparison
 returns c =
     let lines = c.put_differences.ensures.puts.same_lines in
     up_to c.put_differences.ensures (up_to {most = 27} c.put_expiries.ensures c.put_relation.ensures refl (omega arith))
-    (rw (lines, c.goes_on-over.ensures, c.goes_on-under.ensures)) (omega arith)
+    (rw (lines, c.extends-over.ensures, c.extends-under.ensures)) (omega arith)
