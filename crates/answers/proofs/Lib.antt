@@ -1,4 +1,3 @@
 -- The laws of answers about a list.
-mod Told
 pub mod Held
-pub mod Chosen
+mod Told
