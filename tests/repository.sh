@@ -45,16 +45,16 @@ calls() {
     shift
     [ -n "$(body "$name")" ] || fail "crates/calendar/src/lib.rt has no function $name"
     ! body "$name" | grep -wE 'while|loop|for|MONTH_STARTS' || fail "calendar::$name has a loop, or reads the table"
-    found=$(body "$name" | { grep -oE '[a-z_0-9:]+\(' || true; } | tr -d '(' | sort -u | paste -sd ' ')
+    found=$(body "$name" | { grep -oE '\b[a-z_0-9:]+\(' || true; } | tr -d '(' | sort -u | paste -sd ' ')
     [ "$found" = "$*" ] || fail "calendar::$name calls '$found', not '$*'"
 }
 calls estimate
-calls computed_start
+calls computed_start u64::from
 calls month_by_estimate computed_start estimate
-calls month_of found month_by_estimate refused
+calls month_of month_by_estimate
 calls latest_month month_by_estimate
-calls at_most_last
-calls first_day at_most_last computed_start
+calls at_most_last min u32::from
+calls first_day at_most_last computed_start u32::from
 calls is_first first_day latest_month
 ok "the month of a day comes from an estimate, and whether it is a first, with no table, no loop and no function that calls itself"
 

@@ -30,19 +30,6 @@ nothing out = record { same_buffer = refl; same_lines = refl; stored = refl; nex
 pub same_long : {out out' : Output} {bytes : List ℕ} → Puts out out' bytes → length out'.bytes.now ≡ length out.bytes.now
 same_long {out} {out'} {bytes} p = ap length p.stored ∙ length-sets out.bytes.now out.at bytes
 
--- a byte is put where there is room, and none where there is not
-module _ {out out' : Output} {b : ℕ} (same_buffer : out'.bytes.ghost_name ≡ out.bytes.ghost_name) (same_lines : out'.lines ≡ out.lines) where
-  pub one : out.at < length out.bytes.now → out'.bytes.now ≡ set out.bytes.now out.at b → out'.at ≡ out.at + 1 → Puts out out' (b ∷ [])
-  one h e f = record { same_buffer = same_buffer; same_lines = same_lines; stored = e; next = omega (arith, f) }
-
-  pub no_room : length out.bytes.now ≤ out.at → out'.bytes.now ≡ out.bytes.now → out'.at ≡ out.at → Puts out out' (b ∷ [])
-  no_room h e f = record {
-    same_buffer = same_buffer;
-    same_lines = same_lines;
-    stored = e ∙ sym (set_out out.bytes.now out.at b h);
-    next = omega (arith, f);
-  }
-
 -- as many bytes are put as there is room for
 pub none_fit : (out : Output) (bytes : List ℕ) → length out.bytes.now ≤ out.at → Puts out out bytes
 none_fit out bytes h = record { same_buffer = refl; same_lines = refl; stored = sym (sets_out bytes out.bytes.now out.at h); next = omega arith }
@@ -163,17 +150,13 @@ one_put p e = rw e p
 pub two_puts : {out out' out'' : Output} {xs ys bytes : List ℕ} → Puts out out' xs → Puts out' out'' ys → bytes ≡ xs ++ ys → Puts out out'' bytes
 two_puts p q e = rw e (both p q)
 
--- a byte that is x is put, alone or after others
+-- a byte that is x is put
 pub put_byte : {out out' : Output} {bytes : List ℕ} {b x : ℕ} → Puts out out' (b ∷ []) → b ≡ x → bytes ≡ x ∷ [] → Puts out out' bytes
 put_byte p e f = rw (f, ← e) p
 
-pub then_byte : {out out' out'' : Output} {xs bytes : List ℕ} {b x : ℕ} → Puts out out' xs → Puts out' out'' (b ∷ []) → b ≡ x → bytes ≡ xs ++ (x ∷ [])
-    → Puts out out'' bytes
-then_byte p q e f = rw (f, ← e) (both p q)
-
 -- two bytes that are x and y
-pub two_bytes : {out out' out'' : Output} {b c x y : ℕ} → Puts out out' (b ∷ []) → b ≡ x → Puts out' out'' (c ∷ []) → c ≡ y → Puts out out'' (x ∷ y ∷ [])
-two_bytes p e q f = rw (← e, ← f) (both p q)
+pub both_bytes : {out out' : Output} {b c x y : ℕ} → Puts out out' (b ∷ c ∷ []) → b ≡ x → c ≡ y → Puts out out' (x ∷ y ∷ [])
+both_bytes p e f = rw (← e, ← f) p
 
 -- a byte whose halves are x and y
 pub put_pair_of : {out out' : Output} {a b x y : ℕ} → Puts out out' ((a * 16 + b) ∷ []) → a ≡ x → b ≡ y → Puts out out' ((x * 16 + y) ∷ [])

@@ -18,8 +18,7 @@ impl Output<'_> {
     pub fn put_pair(&mut self, n: u64)
         ensures { Puts self.old self.new (pair n) }
     {
-        self.put(digit(n / 10 % 10));
-        self.put(digit(n % 10));
+        self.put_both(digit(n / 10 % 10), digit(n % 10));
     }
 
     // Puts a number, with no leading zero. By two digits at a time, and all at once, since divisions and stores take longer than digits.

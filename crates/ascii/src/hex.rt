@@ -23,8 +23,7 @@ impl Output<'_> {
         ensures { Puts self.old self.new (hex bytes.now) }
     {
         for b in bytes {
-            self.put(hex_digit(b / 16));
-            self.put(hex_digit(b % 16));
+            self.put_both(hex_digit(b / 16), hex_digit(b % 16));
         }
     }
 

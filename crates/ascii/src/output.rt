@@ -36,6 +36,19 @@ impl<'a> Output<'a> {
         }
     }
 
+    // Puts two bytes.
+    pub(crate) fn put_both(&mut self, first: u8, second: u8)
+        ensures { Puts self.old self.new (first ∷ second ∷ []) }
+    {
+        if 1 < self.bytes.len().saturating_sub(self.at) {
+            self.bytes[self.at] = first;
+            self.bytes[self.at + 1] = second;
+            self.at += 2;
+        } else {
+            self.put(first);
+        }
+    }
+
     // Puts bytes.
     pub fn put_all(&mut self, bytes: &[u8])
         ensures { Puts self.old self.new bytes.now }

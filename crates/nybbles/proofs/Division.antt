@@ -113,7 +113,7 @@ none_single [] a e = refl
 none_single (c ∷ cs) (more (short h) a) e = absurd (false≢true (sym e))
 none_single (c ∷ cs) (more (long h l i) a) e = let i = none_single cs a e in omega arith
 
-padded_more : (cs : List (List ℕ)) → any_single cs ≡ true → length (flatten (padded cs)) ≡ length (flatten cs) + 1
+pub padded_more : (cs : List (List ℕ)) → any_single cs ≡ true → length (flatten (padded cs)) ≡ length (flatten cs) + 1
 unfolding any_single flatten padded
 padded_more [] e = absurd (false≢true e)
 padded_more (c ∷ cs) e =

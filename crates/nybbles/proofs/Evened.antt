@@ -2,12 +2,10 @@
 -- Assumes nothing.
 use mathlib.Core.Path.{◌≡◌, refl, sym, ap, ◌∙◌}
 use mathlib.Core.Bool.{true, false, false≢true}
-use mathlib.Core.List.{List, [], ◌∷◌, map, flatten}
-use Prim.Native.Nat.{ℕ, zero, suc, ◌+◌, ◌-◌, ◌%◌, ◌≤◌, ◌<◌}
+use mathlib.Core.List.{List, [], ◌∷◌, ◌++◌, map, map-append, flatten}
+use Prim.Native.Nat.{ℕ, zero, suc, ◌+◌, ◌*◌, ◌-◌, ◌%◌, ◌≤◌, ◌<◌}
 use native.Mathlib.Omega.{arith}
-use Rattle.std.proofs.Common.{sum_by}
-use Rattle.std.proofs.lemmas.List.Sums.{sum_by-cons}
-use Rattle.std.proofs.lemmas.List.{map-set, drop-map}
+use Rattle.std.proofs.lemmas.List.{map-set, drop-map, take_more_set}
 use lib.ListN.{length, get_or, take, drop, set, length-map, length-append, drop_of_length-le, get_or-map}
 use lib.Seq.{length-take-le, get_or-take, take-set-lt, drop-cons}
 use borrow.Author.Tests.{eq-eqb, ne_eqb}
@@ -16,6 +14,7 @@ use Rattle.schedule.proofs.Cases.{by_bool}
 use Rattle.nybbles.specs.declared.written.WrittenCode.{WrittenCode}
 use Rattle.nybbles.specs.declared.written.WrittenCode.TheVariants.{Single, Pair}
 use Rattle.nybbles.specs.Private.{code_of}
+use Rattle.nybbles.proofs.Division.{padded_more}
 use Rattle.nybbles.specs.Write.{is_single, any_single, padded, evened, plain_codes, spelling}
 
 -- where no single nybble is left, and where the last one is
@@ -41,18 +40,19 @@ module _ (d : List ℕ) where
   pad_at (c ∷ cs) (suc i) h l e = simp (any_at cs i (omega arith) l) (ap (λ (t : List (List ℕ)). c ∷ t) (pad_at cs i (omega arith) l e))
 
 -- what holds in the loop of `pad`: no single nybble from here on
-pub record Pads (codes₀ : List WrittenCode) (n₀ : ℕ) (codes : List WrittenCode) (n i : ℕ) : Type 0 where
+pub record Pads (codes₀ : List WrittenCode) (n₀ m₀ : ℕ) (codes : List WrittenCode) (n m i : ℕ) : Type 0 where
   pub same : codes ≡ codes₀
   pub same_count : n ≡ n₀
+  pub same_nybbles : m ≡ m₀
   pub none : any_single (map code_of (drop i (take n₀ codes₀))) ≡ false
 
-pub pads_start : (codes : List WrittenCode) (n : ℕ) → n ≤ length codes → Pads codes n codes n n
+pub pads_start : (codes : List WrittenCode) (n m : ℕ) → n ≤ length codes → Pads codes n m codes n m n
 unfolding any_single
-pads_start codes n full =
+pads_start codes n m full =
     let past : drop n (take n codes) ≡ [] = drop_of_length-le (take n codes) (omega (arith, length-take-le n codes full)) in
-    record { same = refl; same_count = refl; none = rw past refl }
+    record { same = refl; same_count = refl; same_nybbles = refl; none = rw past refl }
 
-module _ (codes₀ : List WrittenCode) (n₀ : ℕ) (codes : List WrittenCode) (n i : ℕ) (s : Pads codes₀ n₀ codes n i) where
+module _ (codes₀ : List WrittenCode) (n₀ m₀ : ℕ) (codes : List WrittenCode) (n m i : ℕ) (s : Pads codes₀ n₀ m₀ codes n m i) where
   module _ (full : n₀ ≤ length codes₀) (h : (0 < i) × (i ≤ n₀)) (d : WrittenCode) where
     here : drop (i - 1) (take n₀ codes₀) ≡ get_or codes (i - 1) d ∷ drop i (take n₀ codes₀)
     here =
@@ -60,31 +60,68 @@ module _ (codes₀ : List WrittenCode) (n₀ : ℕ) (codes : List WrittenCode) (
         let j : i - 1 < length (take n₀ codes₀) = omega (arith, length-take-le n₀ codes₀ full) in
         drop-cons (take n₀ codes₀) (i - 1) d j ∙ rw (next, get_or-take n₀ codes₀ (i - 1) d (omega arith), s.same)
 
-    pub pads_step : {m g : ℕ} → get_or codes (i - 1) d ≡ Pair m g → Pads codes₀ n₀ codes n (i - 1)
+    pub pads_step : {k g : ℕ} → get_or codes (i - 1) d ≡ Pair k g → Pads codes₀ n₀ m₀ codes n m (i - 1)
     unfolding any_single
-    pads_step e = record { same = s.same; same_count = s.same_count; none = rw (here, e) s.none }
+    pads_step e = record { same = s.same; same_count = s.same_count; same_nybbles = s.same_nybbles; none = rw (here, e) s.none }
 
-    pub pads_found : {v : ℕ} → get_or codes (i - 1) d ≡ Single v → map code_of (take n (set codes (i - 1) (Pair 9 v))) ≡ padded (map code_of (take n₀ codes₀))
-    pads_found {v} e =
-        let cs = map code_of (take n₀ codes₀) in
-        let next : suc (i - 1) ≡ i = omega arith in
-        let same : get_or codes₀ (i - 1) d ≡ get_or codes (i - 1) d = ap (λ (l : List WrittenCode). get_or l (i - 1) d) (sym s.same) in
-        let g : get_or cs (i - 1) (code_of d) ≡ v ∷ [] =
-        get_or-map code_of (take n₀ codes₀) (i - 1) d ∙ ap code_of (get_or-take n₀ codes₀ (i - 1) d (omega arith) ∙ (same ∙ e)) in
-        let j : i - 1 < length cs = omega (arith, length-map (take n₀ codes₀) code_of, length-take-le n₀ codes₀ full) in
-        let none : any_single (drop (suc (i - 1)) cs) ≡ false = rw (next, drop-map code_of i (take n₀ codes₀)) s.none in
-        let start : map code_of (take n (set codes (i - 1) (Pair 9 v))) ≡ set cs (i - 1) (9 ∷ v ∷ []) =
-        rw (s.same, s.same_count, take-set-lt n₀ codes₀ (i - 1) (Pair 9 v) (omega arith), map-set) in
-        start ∙ (ap (λ (c : List ℕ). set cs (i - 1) (9 ∷ c)) (sym g) ∙ pad_at (code_of d) cs (i - 1) j (ap is_single g) none)
+    module _ {v : ℕ} (e : get_or codes (i - 1) d ≡ Single v) where
+      abbrev cs : List (List ℕ)
+      cs = map code_of (take n₀ codes₀)
+
+      last : get_or cs (i - 1) (code_of d) ≡ v ∷ []
+      last =
+          let same : get_or codes₀ (i - 1) d ≡ get_or codes (i - 1) d = ap (λ (l : List WrittenCode). get_or l (i - 1) d) (sym s.same) in
+          get_or-map code_of (take n₀ codes₀) (i - 1) d ∙ ap code_of (get_or-take n₀ codes₀ (i - 1) d (omega arith) ∙ (same ∙ e))
+
+      inside : i - 1 < length cs
+      inside = omega (arith, length-map (take n₀ codes₀) code_of, length-take-le n₀ codes₀ full)
+
+      pub pads_found : map code_of (take n (set codes (i - 1) (Pair 9 v))) ≡ padded cs
+      pads_found =
+          let next : suc (i - 1) ≡ i = omega arith in
+          let none : any_single (drop (suc (i - 1)) cs) ≡ false = rw (next, drop-map code_of i (take n₀ codes₀)) s.none in
+          let start : map code_of (take n (set codes (i - 1) (Pair 9 v))) ≡ set cs (i - 1) (9 ∷ v ∷ []) =
+          rw (s.same, s.same_count, take-set-lt n₀ codes₀ (i - 1) (Pair 9 v) (omega arith), map-set) in
+          start ∙ (ap (λ (c : List ℕ). set cs (i - 1) (9 ∷ c)) (sym last) ∙ pad_at (code_of d) cs (i - 1) inside (ap is_single last) none)
+
+      -- one nybble more
+      pub pads_more : m₀ ≡ length (flatten cs) → m + 1 ≡ length (flatten (map code_of (take n (set codes (i - 1) (Pair 9 v)))))
+      pads_more h =
+          let more = padded_more cs (any_at (code_of d) cs (i - 1) inside (ap is_single last)) in
+          rw (s.same_nybbles, h) (sym (ap (λ (l : List (List ℕ)). length (flatten l)) pads_found ∙ more))
 
   pub pads_none : i ≡ 0 → map code_of (take n codes) ≡ padded (map code_of (take n₀ codes₀))
   pads_none z = rw (s.same, s.same_count) (sym (pad_none (map code_of (take n₀ codes₀)) (rw z at s.none)))
 
--- the nybbles of codes are those of each
-pub flat_sum : (codes : List WrittenCode) → length (flatten (map code_of codes)) ≡ sum_by (λ c. length (code_of c)) codes
+-- a code has at most two nybbles
+pub held_few : (c : WrittenCode) → length (code_of c) ≤ 2
+held_few (Single v) = omega arith
+held_few (Pair n g) = omega arith
+
+flat_few : (cs : List WrittenCode) → length (flatten (map code_of cs)) ≤ 2 * length cs
 unfolding flatten
-flat_sum [] = refl
-flat_sum (c ∷ cs) = length-append (code_of c) (flatten (map code_of cs)) ∙ (ap (λ (n : ℕ). length (code_of c) + n) (flat_sum cs) ∙ sym (sum_by-cons (λ w. length (code_of w)) c cs))
+flat_few [] = omega arith
+flat_few (c ∷ cs) = let i = flat_few cs in let h = held_few c in simp length-append (omega arith)
+
+pub few : (codes : List WrittenCode) (n m : ℕ) → n ≤ length codes → m ≡ length (flatten (map code_of (take n codes))) → m ≤ 2 * n
+few codes n m h e = omega (arith, flat_few (take n codes), length-take-le n codes h)
+
+-- one code more has its nybbles more
+flat_more : (cs : List (List ℕ)) (c : List ℕ) → length (flatten (cs ++ (c ∷ []))) ≡ length (flatten cs) + length c
+unfolding flatten
+flat_more [] c = simp length-append (omega arith)
+flat_more (d ∷ cs) c = let i = flat_more cs c in simp length-append (omega arith)
+
+-- the codes in use are as many as the count says
+pub in_use : (codes : List WrittenCode) (n : ℕ) (cs : List (List ℕ)) → n ≤ length codes → map code_of (take n codes) ≡ cs → length cs ≡ n
+in_use codes n cs h e = sym (ap length e) ∙ (length-map (take n codes) code_of ∙ length-take-le n codes h)
+
+module _ (codes : List WrittenCode) (n m : ℕ) (code : WrittenCode) (h : n < length codes) (e : m ≡ length (flatten (map code_of (take n codes)))) where
+  pub push_few : m + length (code_of code) ≤ 2 * n + 2
+  push_few = omega (arith, flat_few (take n codes), held_few code, length-take-le n codes)
+
+  pub push_more : m + length (code_of code) ≡ length (flatten (map code_of (take (n + 1) (set codes n code))))
+  push_more = rw (take_more_set codes n code h, map-append, e) (sym (flat_more (map code_of (take n codes)) (code_of code)))
 
 -- the evened codes
 module _ (s : Schedule) (m : ℕ) (e : m ≡ length (flatten (plain_codes s))) where

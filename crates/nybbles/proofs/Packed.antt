@@ -14,6 +14,7 @@ use Rattle.nybbles.specs.declared.written.WrittenCode.{WrittenCode}
 use Rattle.nybbles.specs.declared.written.WrittenCode.TheVariants.{Single, Pair}
 use Rattle.nybbles.specs.Private.{code_of, AreNybbles}
 use Rattle.schedule.proofs.Stores.{sets_append}
+use Rattle.nybbles.proofs.Evened.{held_few}
 use Rattle.nybbles.proofs.Codes.{All, more, count, upper, lower}
 use Rattle.nybbles.proofs.Division.{IsNybble, spelling_all, flat_all, spelling_even, nybble_count}
 
@@ -82,10 +83,6 @@ first_low (n ∷ c) ns l = (l.0, first_low c ns l.1)
 later_low : (c ns : List ℕ) → AreNybbles (c ++ ns) → AreNybbles ns
 later_low [] ns l = l
 later_low (n ∷ c) ns l = later_low c ns l.1
-
-held_few : (c : WrittenCode) → length (code_of c) ≤ 2
-held_few (Single v) = omega arith
-held_few (Pair n g) = omega arith
 
 module _ (codes : List WrittenCode) (out₀ out : List ℕ) (at i : ℕ) (s : Puts codes out₀ out at i) where
   module _ (h : i < length codes) (d : WrittenCode) where

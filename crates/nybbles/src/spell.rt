@@ -15,11 +15,12 @@ use std::marker::Model;
 // No list has more written codes: a gap of g months has at most (g + 15) / 16 of them, and there are at most 257 gaps, of 2400 months.
 const MAX_CODES: usize = 390;
 
-// Written codes.
+// Written codes: how many there are, and how many nybbles they have.
 #[derive(Drop)]
 pub(crate) struct Spelling {
     codes: [WrittenCode; MAX_CODES],
     count: usize,
+    nybbles: usize,
 }
 
 impl Model for Spelling {
@@ -27,7 +28,7 @@ impl Model for Spelling {
 
     ghost view = { λ s. map code_of (take s.count s.codes) };
 
-    ghost invariant = { λ s. (s.count ≤ max_codes) × (length s.codes ≡ max_codes) };
+    ghost invariant = { λ s. (s.count ≤ max_codes) × (length s.codes ≡ max_codes) × (s.nybbles ≡ length (flatten (map code_of (take s.count s.codes)))) };
 }
 
 impl Spelling {
@@ -36,8 +37,9 @@ impl Spelling {
         ensures { result ≡ [] }
     {
         Spelling {
-            codes: [WrittenCode::SIXTEEN; MAX_CODES],
+            codes: [WrittenCode::Single(0); MAX_CODES],
             count: 0,
+            nybbles: 0,
         }
     }
 
@@ -47,6 +49,7 @@ impl Spelling {
     {
         self.codes[self.count] = code;
         self.count += 1;
+        self.nybbles += code.size();
     }
 
     // The codes of a number of sixes.
@@ -105,7 +108,7 @@ impl Spelling {
     pub(crate) fn nybble_count(&self) -> usize
         ensures { result ≡ length (flatten self.now) }
     {
-        self.codes().iter().map(|code| code.size()).sum()
+        self.nybbles
     }
 
     // Puts a 9 before the last single nybble, if there is one.
@@ -115,6 +118,7 @@ impl Spelling {
         for i in (0..self.count).rev() {
             if let WrittenCode::Single(v) = self.codes[i] {
                 self.codes[i] = WrittenCode::Pair(9, v);
+                self.nybbles += 1;
                 return;
             }
         }

@@ -2,11 +2,11 @@
 pub mod Room
 pub mod Says
 mod Saying
-mod Arms
+mod Ends
 pub mod Cutting
 pub mod Runs
 pub mod OneLine
 pub mod Steady
 pub mod States
-mod Lists
+mod Schedules
 pub mod Worked

@@ -3,6 +3,7 @@
 use Prim.Native.Nat.{ℕ, ◌+◌, ◌-◌, ◌*◌, ◌≤◌}
 use mathlib.Core.Path.{◌≡◌, refl, sym, ap, ◌∙◌}
 use mathlib.Core.Bool.{true, and-eq-true_iff}
+use Rattle.std.specs.Prelude.{Option, Some, None}
 use mathlib.Core.List.{List, [], ◌∷◌, ◌++◌}
 use mathlib.Core.Logic.{◌↔◌, ◌⊎◌, inl, inr}
 use native.Mathlib.Omega.{arith}
@@ -13,8 +14,6 @@ use Rattle.ascii.specs.Ascii.{ascii, within}
 use Rattle.ascii.specs.Decimal.{is_digit, all_digits, value_after}
 use Rattle.ascii.specs.Lines.{space_byte}
 use Rattle.ascii.specs.Parts.{parts}
-use Rattle.ascii.specs.declared.decimal.Number.{Number}
-use Rattle.ascii.specs.declared.decimal.Number.TheVariants.{Given, Missing}
 use Rattle.ascii.proofs.Cases.{by_bool}
 use Rattle.ascii.proofs.Digits.{few_digits, given_digits}
 use Rattle.ascii.proofs.Fields.{has_no, part_before, part_alone, two_parts}
@@ -68,15 +67,15 @@ digits_are (b ∷ bs) d =
     let f = (and-eq-true_iff (leb 48 b) (leb b 57)).0 e.0 in
     (leb-true 48 b f.0, leb-true b 57 f.1, digits_are bs e.1)
 
-short_given : (field : List ℕ) (n : ℕ) → Digits field n → short_number field ≡ Given n
+short_given : (field : List ℕ) (n : ℕ) → Digits field n → short_number field ≡ Some n
 unfolding short_number
 short_given field n d =
-    simp (le-leb (length field) max_digits (omega (arith, d.few))) (few_digits field d.some d.few (are_digits field d.digits) ∙ ap Given d.value)
+    simp (le-leb (length field) max_digits (omega (arith, d.few))) (few_digits field d.some d.few (are_digits field d.digits) ∙ ap Some d.value)
 
-not_given : {A : Type 0} {n : ℕ} → Missing ≡ Given n → A
+not_given : {A : Type 0} {n : ℕ} → None ≡ Some n → A
 not_given e = let z : ◌≡◌ {A = ℕ} 0 1 = cc in absurd (omega arith)
 
-pub given_short : (field : List ℕ) (n : ℕ) → short_number field ≡ Given n → Digits field n
+pub given_short : (field : List ℕ) (n : ℕ) → short_number field ≡ Some n → Digits field n
 unfolding short_number
 given_short field n =
     by_bool (leb (length field) max_digits)
@@ -116,12 +115,12 @@ alone_kind b =
     by_bool (eqb b letter_s) (λ e. rw (eqb-true b letter_s e) (inr says_store))
     (λ e. by_bool (eqb b letter_z) (λ f. rw (eqb-true b letter_z f) (inr says_reset)) (λ f. simp (e, f) (inl refl)))
 
-numbers_kind : (bytes x y : List ℕ) → parts space_byte bytes ≡ x ∷ y ∷ [] → (a b : Number) → short_number x ≡ a → short_number y ≡ b
+numbers_kind : (bytes x y : List ℕ) → parts space_byte bytes ≡ x ∷ y ∷ [] → (a b : Option ℕ) → short_number x ≡ a → short_number y ≡ b
     → Kind (letter_q ∷ space_byte ∷ bytes) (asks a b)
-numbers_kind bytes x y e (Given day) (Given t) f g =
+numbers_kind bytes x y e (Some day) (Some t) f g =
     rw (two_parts space_byte bytes x y e) (inr (says_question x y (given_short x day f) (given_short y t g)))
-numbers_kind bytes x y e (Given day) Missing f g = inl refl
-numbers_kind bytes x y e Missing b f g = inl refl
+numbers_kind bytes x y e (Some day) None f g = inl refl
+numbers_kind bytes x y e None b f g = inl refl
 
 fields_kind : (bytes : List ℕ) (fields : List (List ℕ)) → parts space_byte bytes ≡ fields → Kind (letter_q ∷ space_byte ∷ bytes) (question_of fields)
 fields_kind bytes [] e = inl refl

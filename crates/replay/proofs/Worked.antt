@@ -17,7 +17,7 @@ use Rattle.replay.specs.Trace.{short_number, meaning}
 use Rattle.replay.specs.Replay.{blank_state, Reply, nothing, time, refuse, shown, output}
 use Rattle.replay.specs.Times.{replies_to}
 use Rattle.replay.proofs.OneLine.{shown_all, prints_answers}
-use Rattle.replay.proofs.Lists.{answered, then, all_answered, answered_to, same_answers}
+use Rattle.replay.proofs.Schedules.{answered, then, all_answered, answered_to, same_answers}
 
 -- a row: a trace and what its lines are answered, or what it prints
 pub data Row : Type 0 where

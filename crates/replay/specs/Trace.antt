@@ -1,9 +1,7 @@
 -- "Replay a branch's day": what a line of a trace says.
 -- Assumes nothing: these are definitions.
-use Rattle.std.specs.Prelude.{ℕ, cond, List, [], ◌∷◌, leb, eqb, length}
+use Rattle.std.specs.Prelude.{ℕ, cond, Option, Some, None, List, [], ◌∷◌, leb, eqb, length}
 use Rattle.ascii.specs.Decimal.{number_of}
-use Rattle.ascii.specs.declared.decimal.Number.{Number}
-use Rattle.ascii.specs.declared.decimal.Number.TheVariants.{Given, Missing}
 use Rattle.ascii.specs.Parts.{parts}
 use Rattle.ascii.specs.Lines.{space_byte}
 
@@ -37,14 +35,14 @@ abbrev pub max_digits : ℕ
 max_digits = 18
 
 -- the number of a field: one to 18 decimal digits, leading zeros allowed
-unfoldable pub short_number : List ℕ → Number
-short_number field = cond (leb (length field) max_digits) (number_of field) Missing
+unfoldable pub short_number : List ℕ → Option ℕ
+short_number field = cond (leb (length field) max_digits) (number_of field) None
 
 -- a question with two numbers, where both are given
-abbrev pub asks : Number → Number → Line
-asks (Given day) (Given t) = question day t
-asks (Given day) Missing = other
-asks Missing m = other
+abbrev pub asks : Option ℕ → Option ℕ → Line
+asks (Some day) (Some t) = question day t
+asks (Some day) None = other
+asks None m = other
 
 -- what `Q` says with the fields after its space: two numbers
 abbrev pub question_of : List (List ℕ) → Line

@@ -1,26 +1,25 @@
 // A recorded trace of lines, replayed: lists that are used, stored and gone back to, and questions for smoothed time. Any bytes may be given.
 #![tactic(auto)]
 
-ghost use Rattle.std.specs.Prelude.{◌≡◌, length};
+ghost use Rattle.std.specs.Prelude.{◌≡◌, [], ◌∷◌, length};
 ghost use Rattle.ascii.specs.Output.{PutsUpTo};
+ghost use Rattle.clock.specs.Answers.{uts_count};
+ghost use Rattle.refusals.specs.Answer.{answer_by, answer_of};
+ghost use Rattle.refusals.specs.Refusals.{number_of};
 ghost use Rattle.schedule.specs.Answers.{fitting, fitted};
+ghost use Rattle.text.specs.Read.{read_text};
 ghost use Rattle.stream.specs.Lines.{lines_of};
 ghost use Rattle.stream.specs.Stream.{answered, LinesAnswered};
 ghost use Rattle.replay.specs.Trace.{meaning};
-ghost use Rattle.replay.specs.Replay.{time, refuse, shown, unended, replaying};
-ghost use Rattle.replay.specs.Private.{of_uts, ListUsed, LineReplayed};
+ghost use Rattle.replay.specs.Replay.{State, time, refuse, on_day, numbered, read_over, shown, unended, replaying};
 
 mod meaning; // meaning.rt: what a line says
 
-use crate::meaning::Said;
-use ascii::lines::put_two_numbers;
-use ascii::output::put;
-use ascii::parts::part_end;
-use ascii::refusal::put_refusal;
-use clock::UtsAnswer;
-use refusals::{NO_LINE, OUTPUT_SHORT};
-use schedule::Writing;
-use stream::Step;
+use crate::meaning::{Said, meaning};
+use ascii::output::Output;
+use clock::UtsNanos;
+use refusals::Refusal;
+use stream::{Responder, Step, respond_to_lines};
 
 // No line prints more bytes than this.
 pub const MAX_PRINTED: usize = 22;
@@ -29,68 +28,77 @@ pub const MAX_PRINTED: usize = 22;
 const NO_LINE_BYTES: usize = 4;
 
 // Puts a refusal and an LF.
-fn put_refused(out: &mut [u8], at: usize, number: u8) -> usize
-    ensures { PutsUpTo 22 out.old out.new at result (shown (refuse number)) }
+fn put_refused(out: &mut Output<'_>, why: Refusal)
+    ensures { PutsUpTo 22 out.old out.new (shown (refuse (number_of why))) }
 {
-    let next = put_refusal(out, at, number);
-    put(out, next, b'\n')
+    out.put_refusal(why);
+    out.put(b'\n');
 }
 
 // Puts a day, the nanoseconds of it and an LF.
-fn put_time(out: &mut [u8], at: usize, day: u64, nanos: u64) -> usize
-    ensures { PutsUpTo 42 out.old out.new at result (shown (time day nanos)) }
+fn put_time(out: &mut Output<'_>, day: u64, u: UtsNanos)
+    ensures { PutsUpTo 42 out.old out.new (shown (time day u.0)) }
 {
-    let next = put_two_numbers(out, at, day, nanos);
-    put(out, next, b'\n')
+    out.put_two_numbers(day, u.0);
+    out.put(b'\n');
 }
 
 // Puts the answer to a question.
-fn put_smoothed(out: &mut [u8], at: usize, day: u64, a: UtsAnswer) -> usize
-    ensures { PutsUpTo 42 out.old out.new at result (shown (of_uts day a)) }
+fn put_smoothed(out: &mut Output<'_>, day: u64, answer: Result<UtsNanos, Refusal>)
+    ensures { PutsUpTo 42 out.old out.new (shown (on_day day (answer_by uts_count answer))) }
 {
-    match a {
-        UtsAnswer::Given(u) => put_time(out, at, day, u.0),
-        UtsAnswer::Refused(n) => put_refused(out, at, n),
+    match answer {
+        Ok(u) => put_time(out, day, u),
+        Err(why) => put_refused(out, why),
     }
 }
 
 // Makes a text list the current one, or puts its refusal.
-fn use_list(list: &[u8], current: &mut [u32; 514], out: &mut [u8], at: usize) -> usize
-    ensures { ListUsed list.now current.old current.new out.old out.new at result }
+#[tactic(auto, unfolding(crate::specs::Replay::shown), using(ascii::proofs::Putting::nothing))]
+fn use_list(list: &[u8], current: &mut [u32; 514], out: &mut Output<'_>)
+    ensures puts { PutsUpTo 22 out.old out.new (shown (numbered (read_text list.now).number)) }
+    ensures current { current.new ≡ read_over list.now current.old }
 {
     let mut words = [0u32; 514];
-    let mut place: u64 = 0;
-    let number = text::read_text(list, &mut words, &mut place);
-    if number != 0 {
-        return put_refused(out, at, number);
+    match text::read_text(list, &mut words) {
+        Ok(()) => *current = words,
+        Err(error) => put_refused(out, error.refusal),
     }
-    *current = words;
-    at
 }
 
-// Replays a line: puts what it prints, and sets the lists.
-fn replay_line(
-    line: &[u8],
-    current: &mut [u32; 514],
-    stored: &mut [u32; 514],
-    out: &mut [u8],
-    at: usize,
-) -> usize
-    ensures { LineReplayed (record { current = current.old; stored = stored.old }) (record { current = current.new; stored = stored.new }) (meaning line.now) out.old out.new at result }
-{
-    let said = meaning::meaning(line);
-    match said {
-        Said::Use => use_list(&line[2..], current, out, at),
-        Said::Store => {
-            *stored = *current;
-            at
+// The current list and the stored one, lent.
+#[derive(Drop)]
+struct Lists<'a> {
+    current: &'a mut [u32; 514],
+    stored: &'a mut [u32; 514],
+}
+
+impl Responder for Lists<'_> {
+    ghost State = { State };
+
+    ghost state = { λ lists. record { current = lists.current.now; stored = lists.stored.now } };
+
+    ghost answering = { replaying };
+
+    ghost lent = { λ lists. lists.current.ghost_name ∷ lists.stored.ghost_name ∷ [] };
+
+    fn most() -> usize
+        ensures { result ≡ replaying.most }
+    {
+        MAX_PRINTED
+    }
+
+    #[tactic(auto, unfolding(crate::specs::Replay::reply, crate::specs::Replay::next, crate::specs::Replay::shown), using(crate::proofs::Room::at_most, ascii::proofs::Putting::nothing))]
+    fn respond(&mut self, line: &[u8], out: &mut Output) {
+        match meaning(line) {
+            Some(Said::Use(list)) => use_list(list, self.current, out),
+            Some(Said::Store) => *self.stored = *self.current,
+            Some(Said::Reset) => *self.current = *self.stored,
+            Some(Said::Ask(day, t)) => {
+                put_smoothed(out, day, questions::utc_to_uts(self.current, day, t))
+            }
+            None => put_refused(out, Refusal::NoLine),
         }
-        Said::Reset => {
-            *current = *stored;
-            at
-        }
-        Said::Ask(day, t) => put_smoothed(out, at, day, questions::utc_to_uts(current, day, t)),
-        Said::Other => put_refused(out, at, NO_LINE),
     }
 }
 
@@ -104,35 +112,20 @@ pub fn replay(
 ) -> Step
     ensures { LinesAnswered replaying (record { current = current.old; stored = stored.old }) (answered replaying (length out.old) (record { current = current.old; stored = stored.old }) (lines_of trace.now)) out.old out.new (record { current = current.new; stored = stored.new }) result }
 {
-    let mut used: usize = 0;
-    let mut written: usize = 0;
-    while MAX_PRINTED <= out.len() - written {
-        let end = part_end(trace, used, b'\n');
-        if end == trace.len() {
-            return Step { used, written };
-        }
-        written = replay_line(&trace[used..end], current, stored, out, written);
-        used = end + 1;
-    }
-    Step { used, written }
+    respond_to_lines(&mut Lists { current, stored }, trace, out)
 }
 
 // Ends a trace: writes what its end prints, `left` being what stands after its last LF; 7 where the output has no room for that.
-pub fn replay_end(left: &[u8], out: &mut [u8]) -> Writing
-    ensures { (result ≡ fitting (unended left.now) (length out.old)) × (out.new ≡ fitted (unended left.now) out.old) }
+pub fn replay_end(left: &[u8], out: &mut [u8]) -> Result<usize, Refusal>
+    ensures { (answer_of result ≡ fitting (unended left.now) (length out.old)) × (out.new ≡ fitted (unended left.now) out.old) }
 {
-    if left.len() == 0 {
-        return Writing {
-            number: 0,
-            count: 0,
-        };
+    if left.is_empty() {
+        return Ok(0);
     }
     if out.len() < NO_LINE_BYTES {
-        return Writing {
-            number: OUTPUT_SHORT,
-            count: 0,
-        };
+        return Err(Refusal::OutputShort);
     }
-    let count = put_refused(out, 0, NO_LINE);
-    Writing { number: 0, count }
+    let mut output = Output::new(out, false);
+    put_refused(&mut output, Refusal::NoLine);
+    Ok(output.at)
 }

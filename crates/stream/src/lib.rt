@@ -1,7 +1,7 @@
 // The lines of an input, answered one after the other: how far that came.
 #![tactic(auto)]
 
-ghost use Rattle.std.specs.Prelude.{◌≡◌, ◌-◌, false, length};
+ghost use Rattle.std.specs.Prelude.{◌≡◌, ℕ, ◌-◌, false, List, [], length};
 ghost use Rattle.ascii.specs.Output.{PutsUpTo};
 ghost use Rattle.stream.specs.Lines.{lines_of};
 ghost use Rattle.stream.specs.Stream.{Answering, answered, LinesAnswered};
@@ -24,6 +24,9 @@ pub trait Responder {
 
     ghost answering: { Answering State };
 
+    // The names of what it was lent to change, so that a lender learns what became of that.
+    ghost lent: { Self → List ℕ } = { λ _. [] };
+
     // No line is answered by more bytes.
     fn most() -> usize
         ensures { result ≡ answering.most };
@@ -32,12 +35,14 @@ pub trait Responder {
     fn respond(&mut self, line: &[u8], out: &mut Output)
         requires { out.old.lines ≡ false }
         ensures puts { PutsUpTo answering.most out.old out.new (answering.prints (state self.old) line.now) }
-        ensures next { state self.new ≡ answering.next (state self.old) line.now };
+        ensures next { state self.new ≡ answering.next (state self.old) line.now }
+        ensures same_lent { lent self.new ≡ lent self.old };
 }
 
 // Answers the complete lines of an input, as long as the output has room for the longest answer. A caller goes on with what is left of the input.
 pub fn respond_to_lines<R: Responder>(responder: &mut R, input: &[u8], bytes: &mut [u8]) -> Step
-    ensures { LinesAnswered R.answering (R.state responder.old) (answered R.answering (length bytes.old) (R.state responder.old) (lines_of input.now)) bytes.old bytes.new (R.state responder.new) result }
+    ensures same_lent { R.lent responder.new ≡ R.lent responder.old }
+    ensures answers { LinesAnswered R.answering (R.state responder.old) (answered R.answering (length bytes.old) (R.state responder.old) (lines_of input.now)) bytes.old bytes.new (R.state responder.new) result }
 {
     let mut out = Output::new(bytes, false);
     let mut rest = input;

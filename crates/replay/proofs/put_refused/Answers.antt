@@ -7,7 +7,4 @@ use Rattle.replay.proofs.put_refused.Goals as goal
 
 pub returns : goal.returns
 unfolding shown
-returns c =
-    let put_refusal = c.put_refusal-next in
-    let put = c.put in
-    up_to put_refusal.ensures (a_byte put.ensures) refl (omega arith)
+returns c = up_to c.put_refusal.ensures (a_byte c.put.ensures) refl (omega arith)

@@ -7,7 +7,4 @@ use Rattle.replay.proofs.put_time.Goals as goal
 
 pub returns : goal.returns
 unfolding shown
-returns c =
-    let put_two_numbers = c.put_two_numbers-next in
-    let put = c.put in
-    up_to put_two_numbers.ensures (a_byte put.ensures) refl (omega arith)
+returns c = up_to c.put_two_numbers.ensures (a_byte c.put.ensures) refl (omega arith)

@@ -9,6 +9,7 @@ loop-out-init g c = record {
   empty = c.new-out.ensures.at_start;
   one_line = c.new-out.ensures.same_lines;
   same_buffer = search rules;
+  same_lent = search rules;
   going = begin _ _ _ _ c.new-out.ensures.at_start;
 }
 
@@ -17,11 +18,12 @@ loop-out-preserved g c = record {
   empty = c.loop-out.invariant.empty;
   one_line = c.respond.ensures.puts.puts.same_lines ∙ c.loop-out.invariant.one_line;
   same_buffer = c.respond.ensures.puts.puts.same_buffer ∙ c.loop-out.invariant.same_buffer;
+  same_lent = c.respond.ensures.same_lent ∙ c.loop-out.invariant.same_lent;
   going = step _ c.loop-out.invariant.empty c.loop-out.invariant.going c.in-Some.ensures (omega arith) c.respond.ensures.puts c.respond.ensures.next;
 }
 
-pub returns : goal.returns
-returns g c =
+pub returns-clause-answers : goal.returns-clause-answers
+returns-clause-answers g c =
     lent _ c.args.input.now c.loop-out.rest.now c.new-out.result c.loop-out.out
     (elim c.loop-out-test.branch [
       | else-loop-out-test w ↦ full _ c.loop-out.invariant.empty c.loop-out.invariant.going (omega arith)

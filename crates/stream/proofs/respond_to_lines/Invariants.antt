@@ -8,6 +8,7 @@ invariant-loop-out g l = record {
   empty : l.initial.out.at ≡ 0;
   one_line : l.out.lines ≡ false;
   same_buffer : l.out.bytes.ghost_name ≡ l.initial.out.bytes.ghost_name;
+  same_lent : g.R.Responder.lent l.responder ≡ g.R.Responder.lent l.initial.responder;
   going : Going g.R.Responder.answering (g.R.Responder.state l.initial.responder) l.input l.initial.out l.out (g.R.Responder.state l.responder) l.rest;
 }
 

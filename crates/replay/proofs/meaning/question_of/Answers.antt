@@ -1,28 +1,15 @@
--- `replay::meaning::question_of` meets its contract: a field, and what follows it. Assumes nothing.
-use native.Mathlib.Omega.{arith}
-use mathlib.Core.Path.{sym, ◌∙◌}
-use lib.Seq.{length-take-le}
-use Rattle.ascii.proofs.Fields.{only, first_and_rest}
-use Rattle.replay.proofs.Saying.{last_field}
+-- `replay::meaning::question_of` meets its contract: a field is no number, or both are. Assumes nothing.
+use Rattle.replay.proofs.Saying.{two_fields}
 use Rattle.replay.proofs.meaning.question_of.Goals as goal
 
-pub slice_bounds-asks-end : goal.slice_bounds-asks-end
-slice_bounds-asks-end c =
-    let args = c.args in
-    let if1 = c.if-end-bytes in
-    sym (length-take-le _ args.bytes.now (omega (arith, if1.true)))
+pub returns-in_err-short_number : goal.returns-in_err-short_number
+returns-in_err-short_number c =
+    rw (c.from_residual-in_err-short_number.ensures, two_fields c.in_ok-day.ensures, ← c.short_number.ensures, c.in_err-short_number.was)
 
-pub returns-then-end-bytes : goal.returns-then-end-bytes
-returns-then-end-bytes c =
-    let args = c.args in
-    let part_end = c.part_end-end in
-    let if1 = c.if-end-bytes in
-    let asks = c.asks in
-    rw (first_and_rest 32 args.bytes.now _ part_end.ensures if1.true) (asks.ensures ∙ sym (last_field _ _))
+pub returns-in_err-short_number-2 : goal.returns-in_err-short_number-2
+returns-in_err-short_number-2 c =
+    rw (c.from_residual-in_err-short_number-2.ensures, two_fields c.in_ok-day.ensures, ← c.short_number.ensures, c.in_ok-short_number.was, ← c.short_number-2.ensures, c.in_err-short_number-2.was)
 
 pub returns : goal.returns
 returns c =
-    let args = c.args in
-    let part_end = c.part_end-end in
-    let if1 = c.if-end-bytes in
-    rw (only 32 args.bytes.now _ part_end.ensures if1.false)
+    rw (two_fields c.in_ok-day.ensures, ← c.short_number.ensures, c.in_ok-short_number.was, ← c.short_number-2.ensures, c.in_ok-short_number-2.was)

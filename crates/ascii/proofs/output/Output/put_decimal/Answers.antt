@@ -1,7 +1,5 @@
 -- `ascii::decimal`'s `put_decimal` meets its contract. The loop's invariant: the digits in the array come after those of `rest`. Assumes nothing.
 use Rattle.std.proofs.Common.{◌≡◌, ℕ, ◌-◌, List, take, drop, ◌++◌, sym, ◌∙◌, ap, take_all, length-drop, rules, arith}
-use mir.Syntax.{w64}
-use mir.Val.{Fits}
 use Rattle.ascii.specs.Decimal.{decimal}
 use Rattle.ascii.proofs.Digits.{small, two_digits, room, two_more, decimal_short}
 use Rattle.ascii.proofs.Putting.{one_put, two_puts, put_byte}

@@ -7,21 +7,34 @@ use Rattle.nybbles.proofs.Evened as evened
 use Rattle.nybbles.proofs.spell.Spelling.pad.Goals as goal
 
 pub loop-i-init : goal.loop-i-init
-loop-i-init c = evened.pads_start _ _ (omega (arith, c.self.invariant.0, c.self.invariant.1))
+loop-i-init c = let inv = c.self.invariant in evened.pads_start _ _ _ (omega (arith, inv.0, inv.1))
 
 pub loop-i-preserved : goal.loop-i-preserved
-loop-i-preserved c = evened.pads_step _ _ _ _ _ c.loop-i.invariant (omega (arith, c.self.invariant.0, c.self.invariant.1)) (omega arith, omega arith) _ c.in_default.is
+loop-i-preserved c =
+    let inv = c.self.invariant in
+    evened.pads_step _ _ _ _ _ _ _ c.loop-i.invariant (omega (arith, inv.0, inv.1)) (omega arith, omega arith) _ c.in_default.is
 
 pub invariant_of-self : goal.invariant_of-self
-invariant_of-self c = rw (c.loop-i.invariant.same, c.loop-i.invariant.same_count) c.self.invariant
+invariant_of-self c = rw (c.loop-i.invariant.same, c.loop-i.invariant.same_count, c.loop-i.invariant.same_nybbles) c.self.invariant
+
+pub overflow_add-self : goal.overflow_add-self
+overflow_add-self c =
+    let inv = c.self.invariant in
+    omega (arith, c.loop-i.invariant.same_nybbles, evened.few c.self.inside.codes c.self.inside.count c.self.inside.nybbles (omega (arith, inv.0, inv.1)) inv.2, inv.0)
 
 pub invariant_of-self-in-Single : goal.invariant_of-self-in-Single
-invariant_of-self-in-Single c = rw (length-set, c.loop-i.invariant.same, c.loop-i.invariant.same_count) c.self.invariant
+invariant_of-self-in-Single c =
+    let inv = c.self.invariant in
+    let loop = c.loop-i.invariant in (
+      rw loop.same_count inv.0,
+      rw (length-set, loop.same) inv.1,
+      evened.pads_more _ _ _ _ _ _ _ loop (omega (arith, inv.0, inv.1)) (omega arith, omega arith) _ c.in-Single.is inv.2,
+    )
 
 pub returns-in-Single : goal.returns-in-Single
 returns-in-Single c =
-    evened.pads_found _ _ _ _ _ c.loop-i.invariant (omega (arith, c.self.invariant.0, c.self.invariant.1)) (omega arith, omega arith) _ c.in-Single.is
-    ∙ ap padded c.self.view_is
+    let inv = c.self.invariant in
+    evened.pads_found _ _ _ _ _ _ _ c.loop-i.invariant (omega (arith, inv.0, inv.1)) (omega arith, omega arith) _ c.in-Single.is ∙ ap padded c.self.view_is
 
 pub returns : goal.returns
-returns c = evened.pads_none _ _ _ _ _ c.loop-i.invariant (omega (arith, c.loop-i-test.false)) ∙ ap padded c.self.view_is
+returns c = evened.pads_none _ _ _ _ _ _ _ c.loop-i.invariant (omega (arith, c.loop-i-test.false)) ∙ ap padded c.self.view_is

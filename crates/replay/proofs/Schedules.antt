@@ -22,15 +22,15 @@ use Rattle.replay.specs.Times.{replies, last_reply, replies_to}
 use Rattle.replay.proofs.Steady.{stands}
 
 -- the current list and the stored one
-pub record Lists : Type 0 where
+pub record Schedules : Type 0 where
   pub current : Schedule
   pub stored : Schedule
 
-abbrev in_words : Lists → State
+abbrev in_words : Schedules → State
 in_words p = record { current = words_of p.current; stored = words_of p.stored }
 
 -- what a line is answered, and the lists after it
-unfoldable pub answered : Lists → Line → Reply
+unfoldable pub answered : Schedules → Line → Reply
 answered p (list bytes) = numbered (read_text bytes).number
 answered p store = nothing
 answered p reset = nothing
@@ -40,14 +40,14 @@ answered p other = refuse no_line
 abbrev read_over : List ℕ → Schedule → Schedule
 read_over bytes s = cond (eqb (read_text bytes).number 0) (read_text bytes).schedule s
 
-unfoldable pub then : Lists → Line → Lists
+unfoldable pub then : Schedules → Line → Schedules
 then p (list bytes) = record { current = read_over bytes p.current; stored = p.stored }
 then p store = record { current = p.current; stored = p.current }
 then p reset = record { current = p.stored; stored = p.stored }
 then p (question day t) = p
 then p other = p
 
-unfoldable pub all_answered : Lists → List (List ℕ) → List Reply
+unfoldable pub all_answered : Schedules → List (List ℕ) → List Reply
 all_answered p [] = []
 all_answered p (l ∷ ls) = answered p (meaning l) ∷ all_answered (then p (meaning l)) ls
 
@@ -57,11 +57,11 @@ all_answered p (l ∷ ls) = answered p (meaning l) ∷ all_answered (then p (mea
 abbrev Meant : Schedule → Type 0
 Meant s = meant (words_of s) ≡ s
 
-record BothMeant (p : Lists) : Type 0 where
+record BothMeant (p : Schedules) : Type 0 where
   current : Meant p.current
   stored : Meant p.stored
 
-same_reply : (p : Lists) → BothMeant p → (l : Line) → reply (in_words p) l ≡ answered p l
+same_reply : (p : Schedules) → BothMeant p → (l : Line) → reply (in_words p) l ≡ answered p l
 unfolding reply answered
 same_reply p h (list bytes) = refl
 same_reply p h store = refl
@@ -72,7 +72,7 @@ same_reply p h other = refl
 same_over : (bytes : List ℕ) (s : Schedule) → words.read_over bytes (words_of s) ≡ words_of (read_over bytes s)
 same_over bytes s = by_bool (eqb (read_text bytes).number 0) (λ e. simp e) (λ e. simp e)
 
-same_next : (p : Lists) (l : Line) → next (in_words p) l ≡ in_words (then p l)
+same_next : (p : Schedules) (l : Line) → next (in_words p) l ≡ in_words (then p l)
 unfolding next then
 same_next p (list bytes) = λ i. record { current = same_over bytes p.current i; stored = words_of p.stored }
 same_next p store = refl
@@ -80,7 +80,7 @@ same_next p reset = refl
 same_next p (question day t) = refl
 same_next p other = refl
 
-still_meant : (p : Lists) → BothMeant p → (l : Line) → BothMeant (then p l)
+still_meant : (p : Schedules) → BothMeant p → (l : Line) → BothMeant (then p l)
 unfolding then
 still_meant p h (list bytes) =
     let e : Meant (read_over bytes p.current) =
@@ -91,14 +91,14 @@ still_meant p h reset = record { current = h.stored; stored = h.stored }
 still_meant p h (question day t) = h
 still_meant p h other = h
 
-same_replies : (ls : List (List ℕ)) (p : Lists) → BothMeant p → replies (in_words p) ls ≡ all_answered p ls
+same_replies : (ls : List (List ℕ)) (p : Schedules) → BothMeant p → replies (in_words p) ls ≡ all_answered p ls
 unfolding replies all_answered
 same_replies [] p h = refl
 same_replies (l ∷ ls) p h =
     rw (same_reply p h (meaning l), same_next p (meaning l), same_replies ls (then p (meaning l)) (still_meant p h (meaning l)))
 
 -- at the start
-abbrev blank_lists : Lists
+abbrev blank_lists : Schedules
 blank_lists = record { current = blank_schedule; stored = blank_schedule }
 
 -- what a trace is answered from the start
