@@ -1,24 +1,25 @@
 -- The leaps of a list that lie before a month, and those at or after it.
 -- Assumes nothing.
-use mathlib.Core.Path.{◌≡◌, refl, sym, ap, ◌∙◌}
-use mathlib.Core.Bool.{true, false, cond}
-use mathlib.Core.List.{List, [], ◌∷◌}
-use Prim.Native.Nat.{ℕ, ◌+◌, ◌≤◌, ◌<◌}
-use native.Mathlib.Decide.{dec_lt}
-use native.Mathlib.Omega.{arith}
-use lib.Dec.{eqb}
-use lib.ListN.{length, get_or}
-use borrow.Author.Tests.{eqb-true, eqb-false, eq-eqb, ne_eqb}
+use Rattle.std.proofs.Common.{◌≡◌, ℕ, ◌+◌, ◌≤◌, ◌<◌, true, false, cond, eqb, ltb, Option, Some, None, List, [], ◌∷◌, length, refl, sym, ap, ap₂, ◌∙◌, arith, eqb-true, eq-eqb, ne_eqb}
+use Rattle.std.specs.Iterator.{YieldsFirst}
+use borrow.Author.Tests.{eqb-false}
 use Rattle.ascii.specs.Ascii.{zero_byte}
 use Rattle.schedule.specs.declared.Leap.{Leap}
-use Rattle.schedule.specs.Schedule.{Schedule, no_leap, gaps_fit, well_formed}
+use Rattle.schedule.specs.declared.leaps.Leaps.{Leaps}
+use Rattle.schedule.specs.Schedule.{Schedule, gaps_fit, well_formed}
+use Rattle.schedule.specs.Left.{left}
 use Rattle.schedule.proofs.Cases.{by_bool}
 use Rattle.schedule.proofs.Gaps.{fits_lt, first, later, parts}
 use Rattle.text.specs.Bytes.{end_byte}
-use Rattle.compare.specs.Compare.{leap_mark, is_unknown, mark}
-use Rattle.compare.specs.Private.{past_months, first_month, leaps_from, first_mark, mark_from}
+use Rattle.compare.specs.Compare.{leap_mark, mark}
+use Rattle.compare.specs.Private.{past_months, first_month, last_known, first_mark, mark_ahead, next_of, passed}
 use Rattle.compare.proofs.Marks.{sign_some, none_yet}
-use Rattle.compare.proofs.Places.{here, first_here, first_none}
+use Rattle.compare.proofs.Places.{unknown_after}
+
+-- the leap that an iterator gives, and those that it has left then
+pub taken : (it it' : Leaps) (next : Option Leap) → YieldsFirst left it next it' → next_of next (left it') ≡ left it
+taken it it' None h = sym h.0
+taken it it' (Some l) h = sym h
 
 -- up to the first leap's month the first leap alone gives the mark
 first_gives : (ls : List Leap) (from e k : ℕ) → gaps_fit from ls e ≡ true → k ≤ first_month ls → leap_mark ls k ≡ first_mark ls k
@@ -44,83 +45,64 @@ unfolding first_month
 after [] from e f h = h
 after (l ∷ ls) from e f h = fits_lt from l.month (first from l ls e f)
 
--- the leaps before place i lie before the month, and the others at or after it
-pub record Ahead (s : Schedule) (i m : ℕ) : Type 0 where
+-- of the leaps of a list, `ls` lie at the month or after it, and the others before it
+pub record Ahead (s : Schedule) (ls : List Leap) (m : ℕ) : Type 0 where
   pub well : well_formed s ≡ true
-  pub inside : i ≤ length s.leaps
+  pub fewer : length ls ≤ length s.leaps
   pub last : ℕ
-  pub gaps : gaps_fit last (leaps_from s i) s.expiry ≡ true
-  pub same : (k : ℕ) → m ≤ k → leap_mark s.leaps k ≡ leap_mark (leaps_from s i) k
-  pub up_to : m ≤ first_month (leaps_from s i)
+  pub gaps : gaps_fit last ls s.expiry ≡ true
+  pub same : (k : ℕ) → m ≤ k → leap_mark s.leaps k ≡ leap_mark ls k
+  pub up_to : m ≤ first_month ls
 
-pub begin : (s : Schedule) → well_formed s ≡ true → Ahead s 0 0
-begin s w = record { well = w; inside = omega arith; last = 0; gaps = (parts s w).gaps; same = λ k h. refl; up_to = omega arith }
+pub begin : (s : Schedule) → well_formed s ≡ true → Ahead s s.leaps 0
+begin s w = record { well = w; fewer = omega arith; last = 0; gaps = (parts s w).gaps; same = λ k h. refl; up_to = omega arith }
 
 -- the same from a later month on, up to the first leap
-pub later_month : {s : Schedule} {i m : ℕ} → Ahead s i m → (n : ℕ) → m ≤ n → n ≤ first_month (leaps_from s i) → Ahead s i n
-later_month a n h g = record { well = a.well; inside = a.inside; last = a.last; gaps = a.gaps; same = λ k l. a.same k (omega arith); up_to = g }
+pub later_month : {s : Schedule} {ls : List Leap} {m : ℕ} → Ahead s ls m → (n : ℕ) → m ≤ n → n ≤ first_month ls → Ahead s ls n
+later_month a n h g = record { well = a.well; fewer = a.fewer; last = a.last; gaps = a.gaps; same = λ k l. a.same k (omega arith); up_to = g }
 
-module _ {s : Schedule} {i m : ℕ} (a : Ahead s i m) where
+module _ {s : Schedule} {ls : List Leap} {m : ℕ} (a : Ahead s ls m) where
   -- the mark of a month up to the first leap's, and whether it has a leap
-  pub leap_mark_lem : (k : ℕ) → m ≤ k → k ≤ first_month (leaps_from s i) → leap_mark s.leaps k ≡ first_mark (leaps_from s i) k
-  leap_mark_lem k h g = a.same k h ∙ first_gives (leaps_from s i) a.last s.expiry k a.gaps g
+  leap_mark_lem : (k : ℕ) → m ≤ k → k ≤ first_month ls → leap_mark s.leaps k ≡ first_mark ls k
+  leap_mark_lem k h g = a.same k h ∙ first_gives ls a.last s.expiry k a.gaps g
 
-  pub no_leap_lem : (k : ℕ) → m ≤ k → k < first_month (leaps_from s i) → leap_mark s.leaps k ≡ zero_byte
-  no_leap_lem k h g = leap_mark_lem k h (omega arith) ∙ before_first (leaps_from s i) k g
+  pub no_leap_lem : (k : ℕ) → m ≤ k → k < first_month ls → leap_mark s.leaps k ≡ zero_byte
+  no_leap_lem k h g = leap_mark_lem k h (omega arith) ∙ before_first ls k g
 
-  pub has_leap_lem : m ≡ first_month (leaps_from s i) → m < past_months → eqb (leap_mark s.leaps m) zero_byte ≡ false
-  has_leap_lem e h = ap (λ (x : ℕ). eqb x zero_byte) (leap_mark_lem m (omega arith) (omega arith)) ∙ at_first (leaps_from s i) m e h
+  pub has_leap_lem : m ≡ first_month ls → m < past_months → eqb (leap_mark s.leaps m) zero_byte ≡ false
+  has_leap_lem e h = ap (λ (x : ℕ). eqb x zero_byte) (leap_mark_lem m (omega arith) (omega arith)) ∙ at_first ls m e h
 
-  pub mark_is : mark s m ≡ mark_from s i m
-  mark_is = ap (λ (x : ℕ). cond (is_unknown s m) end_byte x) (leap_mark_lem m (omega arith) a.up_to)
+  pub mark_is : {known : ℕ} → known ≡ last_known s → mark s m ≡ mark_ahead known ls m
+  mark_is {known} e =
+      ap₂ (λ b x. cond b end_byte x) (unknown_after s a.well m ∙ ap (λ (k : ℕ). ltb k m) (sym e)) (leap_mark_lem m (omega arith) a.up_to)
 
-  -- the place after the month
-  module _ (h : m < past_months) where
-    module _ (e : m ≡ first_month (leaps_from s i)) where
-      in_use : i < length s.leaps
-      in_use =
-          elim (dec_lt i (length s.leaps)) [
-            | yes l ↦ l
-            | no l ↦ absurd (omega (arith, first_none s i (omega arith)))
-          ]
+-- a leap gives a later month no mark
+unmarked : (l : Leap) (ls : List Leap) (k : ℕ) → l.month < k → leap_mark (l ∷ ls) k ≡ leap_mark ls k
+unfolding leap_mark
+unmarked l ls k g = simp (ne_eqb l.month k (λ z. omega arith))
 
-      at_month : (get_or s.leaps i no_leap).month ≡ m
-      at_month = sym (first_here s i in_use) ∙ sym e
+-- past a month: its leap is passed, if there is one
+pub past : {s : Schedule} {m : ℕ} (ls : List Leap) → Ahead s ls m → m < past_months → Ahead s (passed m ls) (m + 1)
+unfolding first_month passed
+past {m = m} [] a h = later_month a (m + 1) (omega arith) (omega arith)
+past {s} {m} (l ∷ ls) a h =
+    let rest = later a.last l ls s.expiry a.gaps in
+    by_bool (eqb l.month m)
+    (λ t.
+    let e = eqb-true l.month m t in
+    rw t (record {
+      well = a.well;
+      fewer = omega (arith, a.fewer);
+      last = l.month;
+      gaps = rest;
+      same = λ k g. a.same k (omega arith) ∙ unmarked l ls k (omega arith);
+      up_to = omega (arith, after ls l.month s.expiry rest (omega arith), e);
+    }))
+    (λ f. rw f (later_month a (m + 1) (omega arith) (omega (arith, a.up_to, eqb-false l.month m f))))
 
-      gaps_here : gaps_fit a.last (get_or s.leaps i no_leap ∷ leaps_from s (i + 1)) s.expiry ≡ true
-      gaps_here = rw (here s i in_use) at a.gaps
-
-      gaps_after : gaps_fit m (leaps_from s (i + 1)) s.expiry ≡ true
-      gaps_after = rw at_month at (later a.last (get_or s.leaps i no_leap) (leaps_from s (i + 1)) s.expiry gaps_here)
-
-      unmarked : (k : ℕ) → m + 1 ≤ k → leap_mark (leaps_from s i) k ≡ leap_mark (leaps_from s (i + 1)) k
-      unfolding leap_mark
-      unmarked k l = rw (here s i in_use) (simp (ne_eqb (get_or s.leaps i no_leap).month k (λ z. omega (arith, at_month))))
-
-      go_past : Ahead s (i + 1) (m + 1)
-      go_past =
-          record {
-            well = a.well;
-            inside = omega (arith, in_use);
-            last = m;
-            gaps = gaps_after;
-            same = λ k l. a.same k (omega arith) ∙ unmarked k l;
-            up_to = omega (arith, after (leaps_from s (i + 1)) m s.expiry gaps_after h);
-          }
-
-    stay : (m ≡ first_month (leaps_from s i) → ⊥) → Ahead s i (m + 1)
-    stay n = later_month a (m + 1) (omega arith) (omega (arith, a.up_to, n))
-
-    -- past the month, at the place that the code takes then
-    pub past : (i' : ℕ) → i' ≡ cond (eqb (first_month (leaps_from s i)) m) (i + 1) i → Ahead s i' (m + 1)
-    past i' e =
-        by_bool (eqb (first_month (leaps_from s i)) m)
-        (λ t. let z : i' ≡ i + 1 = e ∙ rw t in rw z (go_past (sym (eqb-true (first_month (leaps_from s i)) m t))))
-        (λ f. let z : i' ≡ i = e ∙ rw f in rw z (stay (λ g. eqb-false (first_month (leaps_from s i)) m f (sym g))))
-
-    -- and one more leap is passed if there is one at the month
-    pub counts : (i' : ℕ) → i' ≡ cond (eqb (first_month (leaps_from s i)) m) (i + 1) i → (i ≤ i') × (m ≡ first_month (leaps_from s i) → i' ≡ i + 1)
-    counts i' e =
-        by_bool (eqb (first_month (leaps_from s i)) m)
-        (λ t. let z : i' ≡ i + 1 = e ∙ rw t in (omega arith, λ g. z))
-        (λ f. let z : i' ≡ i = e ∙ rw f in (omega arith, λ g. absurd (eqb-false (first_month (leaps_from s i)) m f (sym g))))
+-- and one leap fewer is left if there is one at the month
+pub fewer_left : {m : ℕ} (ls : List Leap) → m < past_months → (length (passed m ls) ≤ length ls) × (m ≡ first_month ls → length (passed m ls) + 1 ≡ length ls)
+unfolding first_month passed
+fewer_left [] h = (omega arith, λ e. absurd (omega arith))
+fewer_left {m} (l ∷ ls) h =
+    by_bool (eqb l.month m) (λ t. rw t (omega arith, λ e. omega arith)) (λ f. rw f (omega arith, λ e. absurd (eqb-false l.month m f (sym e))))

@@ -1,6 +1,6 @@
 -- The loop over the months at which either list has a leap: what holds at each, and what is put when it has ended.
 -- Assumes nothing.
-use mathlib.Core.Path.{◌≡◌, refl, ap, ◌∙◌}
+use mathlib.Core.Path.{◌≡◌, refl, sym, ap, ◌∙◌}
 use mathlib.Core.Bool.{Bool, true, false, not, ◌&&◌, ◌||◌, cond}
 use mathlib.Core.List.{List, [], ◌∷◌, ◌++◌}
 use Prim.Native.Nat.{ℕ, zero, suc, ◌+◌, ◌-◌, ◌*◌, ◌≤◌, ◌<◌, min}
@@ -8,8 +8,11 @@ use native.Mathlib.Decide.{dec_le}
 use native.Mathlib.Nat.{add-zero, zero-add, suc-add}
 use native.Mathlib.Omega.{arith}
 use lib.Dec.{eqb}
+use lib.ListN.{length}
 use Rattle.ascii.specs.Ascii.{zero_byte}
+use Rattle.ascii.specs.declared.output.Output.{Output}
 use Rattle.ascii.specs.Output.{PutsUpTo}
+use Rattle.ascii.proofs.Putting.{few}
 use Rattle.ascii.proofs.LeftUpTo.{LeftUpTo, none_yet, more, all}
 use Rattle.ascii.specs.Lines.{between}
 use Rattle.schedule.specs.declared.Leap.{Leap}
@@ -18,9 +21,10 @@ use Rattle.schedule.proofs.WordLayout.{within}
 use Rattle.schedule.proofs.Cases.{by_bool}
 use Rattle.schedule.proofs.Gaps.{later, before_end, parts}
 use Rattle.compare.specs.Compare.{has_leap, leap_mark}
-use Rattle.compare.specs.Private.{past_months, first_month, leaps_from, mark_from, line_bytes, mark_line, month_bytes, months_bytes, differences}
+use Rattle.compare.specs.Private.{past_months, first_month, last_known, mark_ahead, ahead, passed, line_bytes, mark_line, month_bytes, months_bytes, differences}
 use Rattle.compare.proofs.Marks.{leap_marked}
-use Rattle.compare.proofs.Ahead.{Ahead, begin, later_month, no_leap_lem, has_leap_lem, mark_is, past, counts}
+use Rattle.compare.specs.declared.cursor.Cursor.{Cursor}
+use Rattle.compare.proofs.Ahead.{Ahead, begin, later_month, no_leap_lem, has_leap_lem, mark_is, past, fewer_left}
 
 -- ---- months without a line
 
@@ -75,90 +79,111 @@ first_most (l ∷ ls) from e f h = let b = before_end ls l.month e (later from l
 
 -- ---- the loop
 
--- month m is the first of the leaps from place i and from place j on: all lines before it are put, with at most 10 bytes a leap passed
-pub record Going (lines : Bool) (a b : Schedule) (start out : List ℕ) (at next i j m : ℕ) : Type 0 where
-  pub a_ahead : Ahead a i m
-  pub b_ahead : Ahead b j m
-  pub first : m ≡ min (first_month (leaps_from a i)) (first_month (leaps_from b j))
-  pub left : LeftUpTo ((i + j) * 10) start out at next (months_bytes (between lines) a b 0 past_months) (months_bytes (between lines) a b m (past_months - m))
+-- month m is the first of the leaps ahead of both cursors: all lines before it are put, with at most 10 bytes a leap passed
+pub record Going (s t : Schedule) (start out : Output) (a b : Cursor) (m : ℕ) : Type 0 where
+  pub a_known : a.known ≡ last_known s
+  pub b_known : b.known ≡ last_known t
+  pub a_ahead : Ahead s (ahead a) m
+  pub b_ahead : Ahead t (ahead b) m
+  pub first : m ≡ min (first_month (ahead a)) (first_month (ahead b))
+  pub bytes : ℕ
+  pub room : bytes + (length (ahead a) + length (ahead b)) * 10 ≤ 5120
+  pub left : LeftUpTo bytes start out (months_bytes (between start.lines) s t 0 past_months) (months_bytes (between start.lines) s t m (past_months - m))
 
-most : {s : Schedule} {i m : ℕ} → Ahead s i m → first_month (leaps_from s i) ≤ past_months
-most {s} {i} a = first_most (leaps_from s i) a.last s.expiry a.gaps (parts s a.well).end
+most : {s : Schedule} {ls : List Leap} {m : ℕ} → Ahead s ls m → first_month ls ≤ past_months
+most {s} {ls} a = first_most ls a.last s.expiry a.gaps (parts s a.well).end
 
 -- from a month on to that of the next leap there is no line
-between_leaps : (end : List ℕ) {a b : Schedule} {i j m : ℕ} → Ahead a i m → Ahead b j m → (n : ℕ) → n ≡ min (first_month (leaps_from a i)) (first_month (leaps_from b j))
-    → months_bytes end a b m (past_months - m) ≡ months_bytes end a b n (past_months - n)
-between_leaps end {a} {b} {i} {j} {m} x y n e =
-    to_month end a b m n (omega (arith, x.up_to, y.up_to)) (omega (arith, most x))
-    (λ k h g. no_line_lem end a b k (no_leap_lem x k h (omega arith)) (no_leap_lem y k h (omega arith)))
+between_leaps : (end : List ℕ) {s t : Schedule} {ls ks : List Leap} {m : ℕ} → Ahead s ls m → Ahead t ks m → (n : ℕ) → n ≡ min (first_month ls) (first_month ks)
+    → months_bytes end s t m (past_months - m) ≡ months_bytes end s t n (past_months - n)
+between_leaps end {s} {t} {m = m} x y n e =
+    to_month end s t m n (omega (arith, x.up_to, y.up_to)) (omega (arith, most x))
+    (λ k h g. no_line_lem end s t k (no_leap_lem x k h (omega arith)) (no_leap_lem y k h (omega arith)))
 
-pub start_going : (lines : Bool) (a b : Schedule) (out : List ℕ) (at m : ℕ) → well_formed a ≡ true → well_formed b ≡ true
-    → m ≡ min (first_month (leaps_from a 0)) (first_month (leaps_from b 0)) → Going lines a b out out at at 0 0 m
-start_going lines a b out at m w v e =
-    let x = begin a w in
-    let y = begin b v in
+-- a cursor that has passed a month
+abbrev pub Passed : ℕ → Cursor → Cursor → Type 0
+Passed m c c' = (ahead c' ≡ passed m (ahead c)) × (c'.known ≡ c.known)
+
+-- a cursor at the start of a list
+abbrev pub AtStart : Schedule → Cursor → Type 0
+AtStart s c = (ahead c ≡ s.leaps) × (c.known ≡ last_known s)
+
+pub start_going : (s t : Schedule) (out : Output) {a b : Cursor} (m : ℕ) → well_formed s ≡ true → well_formed t ≡ true → AtStart s a → AtStart t b
+    → m ≡ min (first_month (ahead a)) (first_month (ahead b)) → Going s t out out a b m
+start_going s t out {a} {b} m w v p q e =
+    let x : Ahead s (ahead a) 0 = rw p.0 (begin s w) in
+    let y : Ahead t (ahead b) 0 = rw q.0 (begin t v) in
     record {
+      a_known = p.1;
+      b_known = q.1;
       a_ahead = later_month x m (omega arith) (omega arith);
       b_ahead = later_month y m (omega arith) (omega arith);
       first = e;
-      left = none_yet out at (between_leaps (between lines) x y m e);
+      bytes = 0;
+      room = omega (arith, x.fewer, y.fewer, (parts s w).room, (parts t v).room);
+      left = none_yet out (between_leaps (between out.lines) x y m e);
     }
 
-module _ {lines : Bool} {a b : Schedule} {start out : List ℕ} {at next i j m : ℕ} (g : Going lines a b start out at next i j m) where
+module _ {s t : Schedule} {start out : Output} {a b : Cursor} {m : ℕ} (g : Going s t start out a b m) where
   -- after the last leap all lines are put
-  pub ended : past_months ≤ m → PutsUpTo 5120 start out at next (differences (between lines) a b)
+  pub ended : past_months ≤ m → PutsUpTo 5120 start out (differences (between start.lines) s t)
   ended h =
       let z : past_months - m ≡ 0 = omega arith in
-      all g.left (ap (months_bytes (between lines) a b m) z ∙ no_lines (between lines) a b m)
-      (omega (arith, g.a_ahead.inside, g.b_ahead.inside, (parts a g.a_ahead.well).room, (parts b g.b_ahead.well).room))
+      all g.left (ap (months_bytes (between start.lines) s t m) z ∙ no_lines (between start.lines) s t m) (omega (arith, g.room))
 
   module _ (h : m < past_months) where
     -- either has a leap at the month
-    some_leap : (has_leap a.leaps m || has_leap b.leaps m) ≡ true
+    some_leap : (has_leap s.leaps m || has_leap t.leaps m) ≡ true
     some_leap =
-        rw (leap_marked a.leaps m, leap_marked b.leaps m)
-        (elim (dec_le (first_month (leaps_from a i)) (first_month (leaps_from b j))) [
+        rw (leap_marked s.leaps m, leap_marked t.leaps m)
+        (elim (dec_le (first_month (ahead a)) (first_month (ahead b))) [
           | yes l ↦ rw (has_leap_lem g.a_ahead (omega (arith, g.first)) h)
-          | no l ↦ rw (has_leap_lem g.b_ahead (omega (arith, g.first)) h) (or-true (not (eqb (leap_mark a.leaps m) zero_byte)))
+          | no l ↦ rw (has_leap_lem g.b_ahead (omega (arith, g.first)) h) (or-true (not (eqb (leap_mark s.leaps m) zero_byte)))
         ])
 
-    line_is : month_bytes (between lines) a b m ≡ mark_line (between lines) m (mark_from a i m) (mark_from b j m)
-    unfolding month_bytes
-    line_is = line_shape (between lines) m some_leap (mark_is g.a_ahead) (mark_is g.b_ahead)
+    -- the cursors go past it
+    a_next : (a' : Cursor) → Passed m a a' → Ahead s (ahead a') (m + 1)
+    a_next a' u = rw u.0 (past (ahead a) g.a_ahead h)
 
-    module _ {i' j' m' : ℕ} (p : i' ≡ cond (eqb (first_month (leaps_from a i)) m) (i + 1) i) (q : j' ≡ cond (eqb (first_month (leaps_from b j)) m) (j + 1) j)
-        (e : m' ≡ min (first_month (leaps_from a i')) (first_month (leaps_from b j'))) where
-      x : Ahead a i' (m + 1)
-      x = past g.a_ahead h i' p
+    b_next : (b' : Cursor) → Passed m b b' → Ahead t (ahead b') (m + 1)
+    b_next b' v = rw v.0 (past (ahead b) g.b_ahead h)
 
-      y : Ahead b j' (m + 1)
-      y = past g.b_ahead h j' q
+    -- the months rise
+    pub rises : (a' b' : Cursor) (m' : ℕ) → Passed m a a' → Passed m b b' → m' ≡ min (first_month (ahead a')) (first_month (ahead b')) → m < m'
+    rises a' b' m' u v e = omega (arith, (a_next a' u).up_to, (b_next b' v).up_to)
 
-      -- the months rise
-      pub rises : m < m'
-      rises = omega (arith, x.up_to, y.up_to)
+    -- and with each at least one leap more is passed
+    one_more : (a' b' : Cursor) → Passed m a a' → Passed m b b' → length (ahead a') + length (ahead b') + 1 ≤ length (ahead a) + length (ahead b)
+    one_more a' b' u v =
+        let c = fewer_left (ahead a) h in
+        let d = fewer_left (ahead b) h in
+        elim (dec_le (first_month (ahead a)) (first_month (ahead b))) [
+          | yes l ↦ omega (arith, ap length u.0, ap length v.0, c.1 (omega (arith, g.first)), d.0)
+          | no l ↦ omega (arith, ap length u.0, ap length v.0, d.1 (omega (arith, g.first)), c.0)
+        ]
 
-      -- and with each at least one leap more is passed
-      one_more : i + j + 1 ≤ i' + j'
-      one_more =
-          let u = counts g.a_ahead h i' p in
-          let v = counts g.b_ahead h j' q in
-          elim (dec_le (first_month (leaps_from a i)) (first_month (leaps_from b j))) [
-            | yes l ↦ omega (arith, u.1 (omega (arith, g.first)), v.0)
-            | no l ↦ omega (arith, v.1 (omega (arith, g.first)), u.0)
-          ]
+    -- the line that the code puts for the month
+    module _ {x y : ℕ} (p : x ≡ mark_ahead a.known (ahead a) m) (q : y ≡ mark_ahead b.known (ahead b) m) where
+      line_is : month_bytes (between start.lines) s t m ≡ mark_line (between start.lines) m x y
+      unfolding month_bytes
+      line_is = line_shape (between start.lines) m some_leap (mark_is g.a_ahead g.a_known ∙ sym p) (mark_is g.b_ahead g.b_known ∙ sym q)
 
-      -- the line of the month is put
-      pub go_on : {out' : List ℕ} {next' : ℕ} → PutsUpTo 10 out out' next next' (mark_line (between lines) m (mark_from a i m) (mark_from b j m))
-          → Going lines a b start out' at next' i' j' m'
-      go_on put =
-          record {
-            a_ahead = later_month x m' (omega (arith, rises)) (omega arith);
-            b_ahead = later_month y m' (omega (arith, rises)) (omega arith);
-            first = e;
-            left =
-                more g.left put
-                (first_line (between lines) a b m h ∙ (ap (λ (l : List ℕ). l ++ months_bytes (between lines) a b (m + 1) (past_months - (m + 1))) line_is
-                ∙ ap (λ (l : List ℕ). mark_line (between lines) m (mark_from a i m) (mark_from b j m) ++ l) (between_leaps (between lines) x y m' e)))
-                (omega (arith, one_more));
-          }
+      module _ {a' b' : Cursor} {m' : ℕ} (u : Passed m a a') (v : Passed m b b') (e : m' ≡ min (first_month (ahead a')) (first_month (ahead b'))) where
+        pub go_on : {out' : Output} → PutsUpTo 10 out out' (mark_line (between out.lines) m x y) → Going s t start out' a' b' m'
+        go_on {out'} put =
+            let end = between start.lines in
+            let same : out.lines ≡ start.lines = g.left.puts.puts.same_lines in
+            record {
+              a_known = u.1 ∙ g.a_known;
+              b_known = v.1 ∙ g.b_known;
+              a_ahead = later_month (a_next a' u) m' (omega (arith, rises a' b' m' u v e)) (omega arith);
+              b_ahead = later_month (b_next b' v) m' (omega (arith, rises a' b' m' u v e)) (omega arith);
+              first = e;
+              bytes = g.bytes + 10;
+              room = omega (arith, g.room, one_more a' b' u v);
+              left =
+                  more g.left (few {most = 10} put (ap (λ (lines : Bool). mark_line (between lines) m x y) (sym same)) (omega arith))
+                  (first_line end s t m h ∙ (ap (λ (l : List ℕ). l ++ months_bytes end s t (m + 1) (past_months - (m + 1))) line_is
+                  ∙ ap (λ (l : List ℕ). mark_line end m x y ++ l) (between_leaps end (a_next a' u) (b_next b' v) m' e)))
+                  (omega arith);
+            }

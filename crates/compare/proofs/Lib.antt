@@ -4,10 +4,9 @@ pub mod Marks
 pub mod Told
 pub mod Bytes
 pub mod Places
+mod Written
 pub mod Ahead
 pub mod Going
-pub mod Found
-pub mod Held
 pub mod Meaning
 pub mod Shown
 pub mod Parting

@@ -1,13 +1,13 @@
 -- Where two lists part, in lines.
 -- Assumes nothing: these are definitions.
 use Rattle.std.specs.Prelude.{ℕ, zero, suc, ◌+◌, Bool, true, false, not, ◌&&◌, ◌||◌, cond, List, [], ◌∷◌, ◌++◌, eqb}
+use Rattle.refusals.specs.Answer.{Answer, refused}
 use Rattle.ascii.specs.Ascii.{ascii, zero_byte}
 use Rattle.ascii.specs.Decimal.{decimal}
 use Rattle.ascii.specs.Lines.{newline, space_byte, between}
-use Rattle.schedule.specs.declared.Writing.{Writing}
 use Rattle.schedule.specs.declared.Leap.{Leap}
 use Rattle.schedule.specs.Schedule.{Schedule, last_month, is_expired}
-use Rattle.schedule.specs.Answers.{unwritten, fitting, fitted}
+use Rattle.schedule.specs.Answers.{fitting, fitted}
 use Rattle.schedule.specs.Extends.{extends}
 use Rattle.text.specs.Bytes.{sign_byte, end_byte}
 use Rattle.compare.specs.Longer.{about_both}
@@ -91,8 +91,8 @@ unfoldable pub compared : Schedule → Schedule → List ℕ
 compared a b = in_lines (lines_of a b)
 
 -- what comparing two text lists answers: the first list's refusal, then the second's, then 7, else the count of bytes
-abbrev pub comparing : List ℕ → List ℕ → ℕ → Writing
-comparing x y room = about_both x y unwritten (λ a b. fitting (compared a b) room)
+abbrev pub comparing : List ℕ → List ℕ → ℕ → Answer ℕ
+comparing x y room = about_both x y refused (λ a b. fitting (compared a b) room)
 
 -- what the output then holds: the comparison and, beyond it, what it held; what it held where it is refused
 abbrev pub compared_into : List ℕ → List ℕ → List ℕ → List ℕ

@@ -1,23 +1,33 @@
 -- What only private functions are held to. No public contract and no promise speaks of these.
 -- Assumes nothing: these are definitions.
-use Rattle.std.specs.Prelude.{ℕ, zero, suc, ◌+◌, ◌-◌, ◌≡◌, Bool, cond, List, [], ◌∷◌, ◌++◌, eqb, drop}
+use Rattle.std.specs.Prelude.{ℕ, zero, suc, ◌+◌, ◌-◌, Bool, cond, Option, Some, None, List, [], ◌∷◌, ◌++◌, eqb, nat_lt}
+use Rattle.refusals.specs.Answer.{Answer, given, refused}
 use Rattle.ascii.specs.Ascii.{ascii, zero_byte}
 use Rattle.ascii.specs.Decimal.{decimal}
 use Rattle.ascii.specs.Lines.{space_byte, between}
 use Rattle.schedule.specs.declared.Leap.{Leap}
 use Rattle.schedule.specs.Schedule.{Schedule, last_month, month_of}
 use Rattle.schedule.specs.WordLayout.{meant}
+use Rattle.schedule.specs.Answers.{by_reading}
+use Rattle.schedule.specs.Left.{left}
 use Rattle.schedule.specs.Extends.{extends}
 use Rattle.text.specs.Bytes.{sign_byte, end_byte}
 use Rattle.text.specs.Read.{read_text}
+use Rattle.compare.specs.declared.cursor.Cursor.{Cursor}
+use Rattle.compare.specs.declared.texts.TwoLists.{TwoLists}
 use Rattle.compare.specs.Longer.{about_both}
-use Rattle.compare.specs.Compare.{is_unknown, mark, has_line, relation_by}
+use Rattle.compare.specs.Compare.{mark, has_line, relation_by}
 
--- two texts were read: the number of the first refusal, or 0 and both lists in words
-pub record BothRead (x y : List ℕ) (number : ℕ) (a b : List ℕ) : Type 0 where
-  pub its_number : number ≡ about_both x y (λ n. n) (λ s t. 0)
-  pub first : number ≡ 0 → meant a ≡ (read_text x).schedule
-  pub second : number ≡ 0 → meant b ≡ (read_text y).schedule
+-- the schedule that a text is read as, and those of two texts; or the number of the first refusal
+abbrev pub text_read : List ℕ → Answer Schedule
+text_read x = by_reading (read_text x) (λ n place. refused n) given
+
+abbrev pub texts_read : List ℕ → List ℕ → Answer (Schedule × Schedule)
+texts_read x y = about_both x y refused (λ a b. given (a, b))
+
+-- the schedules of two lists
+abbrev pub schedules : TwoLists → Schedule × Schedule
+schedules t = (meant t.first.words.now, meant t.second.words.now)
 
 -- past the last month
 abbrev pub past_months : ℕ
@@ -40,13 +50,22 @@ unfoldable pub first_mark : List Leap → ℕ → ℕ
 first_mark [] m = zero_byte
 first_mark (l ∷ ls) m = mark_of_leap l m
 
--- the leaps from a place on
-abbrev pub leaps_from : Schedule → ℕ → List Leap
-leaps_from s i = drop i s.leaps
+-- the leaps that are ahead of a cursor: the next one, if there is one, and those after it
+abbrev pub next_of : Option Leap → List Leap → List Leap
+next_of None ls = []
+next_of (Some l) ls = l ∷ ls
 
--- the mark of a list whose leaps up to place i lie before the month
-abbrev pub mark_from : Schedule → ℕ → ℕ → ℕ
-mark_from s i m = cond (is_unknown s m) end_byte (first_mark (leaps_from s i) m)
+abbrev pub ahead : Cursor → List Leap
+ahead c = next_of c.next (left c.rest)
+
+-- the mark of a month by the leaps at it and after it, and by the last month that is known
+abbrev pub mark_ahead : ℕ → List Leap → ℕ → ℕ
+mark_ahead known ls m = cond (nat_lt known m) end_byte (first_mark ls m)
+
+-- the leaps after a month, of those at it and after it
+unfoldable pub passed : ℕ → List Leap → List Leap
+passed m [] = []
+passed m (l ∷ ls) = cond (eqb l.month m) ls (l ∷ ls)
 
 -- the line of a month and what stands after it
 abbrev pub line_bytes : List ℕ → ℕ → ℕ → ℕ → List ℕ

@@ -11,7 +11,6 @@ use Rattle.schedule.specs.Schedule.{Schedule}
 use Rattle.nybbles.specs.Codes.{nybbles}
 use Rattle.nybbles.specs.Write.{pack, spelling, nybbles_of}
 use Rattle.nybbles.specs.declared.written.WrittenCode.{WrittenCode}
-use Rattle.nybbles.specs.declared.written.WrittenCode.TheVariants.{Single, Pair}
 use Rattle.nybbles.specs.Private.{code_of, AreNybbles}
 use Rattle.schedule.proofs.Stores.{sets_append}
 use Rattle.nybbles.proofs.Evened.{held_few}

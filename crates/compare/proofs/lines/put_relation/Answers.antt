@@ -1,37 +1,21 @@
 -- `compare::lines::put_relation` meets its contract. Assumes nothing.
-use native.Mathlib.Omega.{arith}
+use Rattle.std.proofs.Common.{arith}
 use Rattle.ascii.proofs.Putting.{text_put}
 use Rattle.compare.specs.Compare.{relation_by}
 use Rattle.compare.proofs.lines.put_relation.Goals as goal
 
-pub returns-then-under : goal.returns-then-under
+pub returns-in-true-true : goal.returns-in-true-true
 unfolding relation_by
-returns-then-under c =
-    let put_all_lem = c.put_all in
-    let if1 = c.if-over in
-    let if2 = c.if-under in
-    text_put put_all_lem.ensures (rw (if1.true, if2.true)) (omega arith)
+returns-in-true-true c = text_put c.put_all.ensures (rw (c.in-true-true.is-0, c.in-true-true.is-1)) (omega arith)
 
-pub returns-then-over : goal.returns-then-over
+pub returns-in-true-false : goal.returns-in-true-false
 unfolding relation_by
-returns-then-over c =
-    let put_all2 = c.put_all-then-over in
-    let if1 = c.if-over in
-    let if2 = c.if-under in
-    text_put put_all2.ensures (rw (if1.true, if2.false)) (omega arith)
+returns-in-true-false c = text_put c.put_all-in-true-false.ensures (rw (c.in-true-false.is-0, c.in-true-false.is-1)) (omega arith)
 
-pub returns-then-under-2 : goal.returns-then-under-2
+pub returns-in-false-true : goal.returns-in-false-true
 unfolding relation_by
-returns-then-under-2 c =
-    let put_all3 = c.put_all-then-under-2 in
-    let if1 = c.if-over in
-    let if3 = c.if-under-2 in
-    text_put put_all3.ensures (rw (if1.false, if3.true)) (omega arith)
+returns-in-false-true c = text_put c.put_all-in-false-true.ensures (rw (c.in-false-true.is-0, c.in-false-true.is-1)) (omega arith)
 
-pub returns : goal.returns
+pub returns-in-false-false : goal.returns-in-false-false
 unfolding relation_by
-returns c =
-    let put_all4 = c.put_all-2 in
-    let if1 = c.if-over in
-    let if3 = c.if-under-2 in
-    text_put put_all4.ensures (rw (if1.false, if3.false)) (omega arith)
+returns-in-false-false c = text_put c.put_all-in-false-false.ensures (rw (c.in-false-false.is-0, c.in-false-false.is-1)) (omega arith)
