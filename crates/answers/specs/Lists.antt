@@ -8,7 +8,12 @@ use Rattle.schedule.specs.Schedule.{Schedule}
 use Rattle.schedule.specs.Answers.{Reading, by_reading}
 use Rattle.text.specs.Read.{read_text}
 use Rattle.nybbles.specs.Write.{nybbles_of}
-use Rattle.ascii.specs.Refusal.{refusal_at}
+use Rattle.compare.specs.declared.longer.Chosen.{Chosen}
+use Rattle.compare.specs.declared.longer.Chosen.TheVariants.{First, Second}
+use Rattle.compare.specs.Compare.{comparison_of}
+use Rattle.compare.specs.Longer.{chosen}
+use Rattle.refusals.specs.Answer.{Answer, given, refused}
+use Rattle.ascii.specs.Refusal.{refusal, refusal_at}
 
 -- the embedded list, the official table of July 2026
 abbrev pub current : List ℕ
@@ -24,6 +29,19 @@ about_read r f = by_reading r refusal_at f
 
 abbrev pub about_list : List ℕ → (Schedule → List ℕ) → List ℕ
 about_list field f = about_read (read_text (list_of field)) f
+
+-- two lists compared; of a refusal the number alone
+abbrev pub comparison_answer : Bool → List ℕ → List ℕ → List ℕ
+comparison_answer lines x y = comparison_of lines (list_of x) (list_of y)
+
+-- the longer of two lists, or the refusal
+unfoldable pub longer_by : Answer Chosen → List ℕ → List ℕ → List ℕ
+longer_by (given First) x y = x
+longer_by (given Second) x y = y
+longer_by (refused n) x y = refusal n
+
+abbrev pub longer_answer : List ℕ → List ℕ → List ℕ
+longer_answer x y = longer_by (chosen (list_of x) (list_of y)) (list_of x) (list_of y)
 
 -- a list as nybbles, in hex
 abbrev pub nybbles_answer : List ℕ → List ℕ

@@ -2,4 +2,5 @@
 #![tactic(auto)]
 
 pub mod lists; // lists.rt: the list that a field names, and as nybbles
+pub mod pairs; // pairs.rt: two lists compared, and the longer one
 pub mod times; // times.rt: the time questions
