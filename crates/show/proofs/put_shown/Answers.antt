@@ -1,13 +1,18 @@
 -- `show::put_shown` meets its contract: the words are a list, or they are not. Assumes nothing.
-use Rattle.std.proofs.Common.{arith}
+use Rattle.std.proofs.Common.{◌≡◌, true, arith}
+use Rattle.refusals.specs.Answer.{given, require}
+use Rattle.refusals.specs.Refusals.{not_well_formed}
 use Rattle.schedule.specs.WordLayout.{meant}
-use Rattle.schedule.specs.Schedule.{well_formed}
+use Rattle.schedule.specs.Schedule.{Schedule, well_formed}
 use Rattle.schedule.proofs.Cases.{by_bool}
-use Rattle.schedule.proofs.Answers.{listed}
 use Rattle.ascii.proofs.Putting.{few}
 use Rattle.show.specs.Show.{shown}
 use Rattle.show.specs.Private.{shown_from}
 use Rattle.show.proofs.put_shown.Goals as goal
+
+-- words that are a list are the words given
+listed : {A : Type 0} (s : Schedule) {x y : A} → given x ≡ require (well_formed s) not_well_formed (given y) → (well_formed s ≡ true) × (x ≡ y)
+listed s e = by_bool (well_formed s) (λ w. let z = simp w at e in (w, cc)) (λ w. absurd (let z = simp w at e in cc))
 
 pub returns-in-Ok : goal.returns-in-Ok
 unfolding shown shown_from
