@@ -1,16 +1,22 @@
 -- `many::stretches::lay_starts` meets its contract. Assumes nothing.
-use mathlib.Core.Path.{ap, ◌∙◌}
-use Prim.Native.Nat.{◌<◌}
+use mathlib.Core.Bool.{true}
+use mathlib.Core.List.{List}
+use mathlib.Core.Path.{◌≡◌, ap, ◌∙◌}
+use Prim.Native.Nat.{ℕ, ◌*◌, ◌<◌, ◌≤◌}
 use native.Mathlib.Omega.{arith}
-use lib.ListN.{length}
-use Rattle.calendar.specs.Calendar.{month_start}
+use lib.ListN.{length, get_or}
+use Rattle.calendar.specs.Calendar.{last_month, month_start}
 use Rattle.calendar.proofs.Laws.{start_min, start_to}
-use Rattle.schedule.specs.WordLayout.{meant}
+use Rattle.schedule.specs.WordLayout.{count_word, meant}
+use Rattle.schedule.specs.Schedule.{well_formed}
 use Rattle.schedule.proofs.Gaps.{parts}
 use Rattle.schedule.proofs.Meant.{count_is, month_word_lem}
-use Rattle.questions.proofs.LaidOut.{month_meant}
+use Rattle.schedule.proofs.WordLayout.{small_month}
 use Rattle.many.proofs.Preparing.{starting_none, starting_one, starting_all}
 use Rattle.many.proofs.stretches.lay_starts.Goals as goal
+
+month_meant : (words : List ℕ) (w : well_formed (meant words) ≡ true) (i : ℕ) → i < count_word words → get_or words (2 * i) 0 ≤ last_month
+month_meant words w i h = omega (arith, month_word_lem words w i h, small_month (meant words) w i)
 
 pub loop-i-init : goal.loop-i-init
 loop-i-init c = starting_none (meant c.args.list.words.now) c.args.prepared.now c.requires.1
