@@ -10,41 +10,43 @@ use Rattle.text.proofs.Room.{at_most}
 use Rattle.text.proofs.Sound.{accepted_well_formed}
 use Rattle.text.proofs.Spelling.{one_spelling}
 use Rattle.compare.specs.declared.longer.Chosen.{Chosen}
-use Rattle.compare.specs.declared.longer.Chosen.TheVariants.{First, Second, Refused}
+use Rattle.compare.specs.declared.longer.Chosen.TheVariants.{First, Second}
+use Rattle.refusals.specs.Answer.{Answer, given, refused}
 use Rattle.compare.specs.Longer.{chosen}
 use Rattle.compare.proofs.TwoTexts.{Taken}
 use Rattle.compare.proofs.Handed.{both_read}
 use Rattle.ascii.specs.Refusal.{refusal}
-use Rattle.answers.specs.Lists.{longer_by}
+use Rattle.answers.specs.Lists.{list_of, longer_by, longer_answer}
 
 read_few : (x : List ℕ) → Taken x → length x ≤ 1028
 read_few x t = rw (one_spelling x t) at (at_most (read_text x).schedule (accepted_well_formed x t))
 
-no_refusal : {c : Chosen} → (c ≡ First) ⊎ (c ≡ Second) → (n : ℕ) → c ≢ Refused n
-no_refusal (inl e) n f = let z : First ≡ Refused n = sym e ∙ f in absurd (let k : ◌≡◌ {A = ℕ} 0 1 = cc in omega arith)
-no_refusal (inr e) n f = let z : Second ≡ Refused n = sym e ∙ f in absurd (let k : ◌≡◌ {A = ℕ} 0 1 = cc in omega arith)
+no_refusal : {a : Answer Chosen} {c : Chosen} → given c ≡ a → (n : ℕ) → a ≢ refused n
+no_refusal e n f = let z = e ∙ f in absurd cc
 
 module _ (x y : List ℕ) where
-  pub first_read : chosen x y ≡ First → Taken x
-  first_read e = (both_read x y (no_refusal (inl e))).0
+  pub first_read : given First ≡ chosen x y → Taken x
+  first_read e = (both_read x y (no_refusal e)).0
 
-  pub second_read : chosen x y ≡ Second → Taken y
-  second_read e = (both_read x y (no_refusal (inr e))).1
+  pub second_read : given Second ≡ chosen x y → Taken y
+  second_read e = (both_read x y (no_refusal e)).1
 
-  pub first_few : chosen x y ≡ First → length x ≤ 1028
+  pub first_few : given First ≡ chosen x y → length x ≤ 1028
   first_few e = read_few x (first_read e)
 
-  pub second_few : chosen x y ≡ Second → length y ≤ 1028
+  pub second_few : given Second ≡ chosen x y → length y ≤ 1028
   second_few e = read_few y (second_read e)
 
-  pub by_first : chosen x y ≡ First → longer_by (chosen x y) x y ≡ x
+-- what is put, by the choice between the lists that two fields name
+module _ (x y : List ℕ) {first second : List ℕ} (p : first ≡ list_of x) (q : second ≡ list_of y) where
+  pub by_first : given First ≡ chosen first second → longer_answer x y ≡ first
   unfolding longer_by
-  by_first e = rw e
+  by_first e = rw (← p, ← q, ← e)
 
-  pub by_second : chosen x y ≡ Second → longer_by (chosen x y) x y ≡ y
+  pub by_second : given Second ≡ chosen first second → longer_answer x y ≡ second
   unfolding longer_by
-  by_second e = rw e
+  by_second e = rw (← p, ← q, ← e)
 
-  pub by_refused : {n : ℕ} → chosen x y ≡ Refused n → longer_by (chosen x y) x y ≡ refusal n
+  pub by_refused : {n : ℕ} → refused n ≡ chosen first second → longer_answer x y ≡ refusal n
   unfolding longer_by
-  by_refused e = rw e
+  by_refused e = rw (← p, ← q, ← e)

@@ -1,4 +1,4 @@
 -- The laws of answers about a list.
-mod Told
 pub mod Held
+mod Told
 pub mod Chosen

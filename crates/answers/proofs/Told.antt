@@ -1,63 +1,21 @@
--- The clock's answers in bytes, by question. Assumes nothing.
-use mathlib.Core.Path.{◌≡◌, refl}
-use Prim.Native.Nat.{ℕ}
-use lib.IntN.{ℤ}
-use Rattle.ascii.specs.Decimal.{decimal, signed}
+-- An answer in bytes, by what a call's result says of it. Assumes nothing.
+use Rattle.std.proofs.Common.{◌≡◌, ℕ, List, Result, Ok, Err, refl, sym, ap, ◌∙◌}
+use Rattle.std.specs.Prelude.{IsErrAnd, MatchResult}
+use Rattle.refusals.specs.declared.Refusal.{Refusal}
+use Rattle.refusals.specs.Refusals.{number_of}
 use Rattle.refusals.specs.Answer.{Answer, given, refused}
-use Rattle.clock.specs.Question.{Utc, ask_tai_to_utc, dtai_on, utc_to_tai, tai_to_utc, utc_to_uts, uts_to_utc}
-use Rattle.clock.specs.Answers.{dtai_answer, tai_answer, utc_answer, uts_answer, micros_answer}
-use Rattle.clock.specs.declared.DtaiAnswer.{DtaiAnswer}
-use Rattle.clock.specs.declared.TaiAnswer.{TaiAnswer}
-use Rattle.clock.specs.declared.UtcAnswer.{UtcAnswer}
-use Rattle.clock.specs.declared.UtsAnswer.{UtsAnswer}
-use Rattle.clock.specs.declared.MicrosAnswer.{MicrosAnswer}
-use Rattle.clock.specs.declared.TaiMicros.{TaiMicros}
-use Rattle.clock.specs.declared.UtcMicros.{UtcMicros}
-use Rattle.clock.specs.declared.UtsNanos.{UtsNanos}
-use Rattle.schedule.specs.Schedule.{Schedule}
-use Rattle.answers.specs.declared.times.Asked.{Asked}
-use Rattle.answers.specs.declared.times.Asked.TheVariants as asked
-use Rattle.answers.specs.Times.{values_of, told, asked_of, question_of}
-use Rattle.answers.specs.Private.{of_dtai, of_tai, of_utc, of_uts, of_micros}
+use Rattle.ascii.specs.declared.output.Output.{Output}
+use Rattle.ascii.specs.Output.{PutsUpTo}
+use Rattle.ascii.specs.Refusal.{refusal}
+use Rattle.answers.specs.Times.{told}
 
-in_dtai : (a : Answer ℤ) → told signed a ≡ of_dtai (dtai_answer a)
-in_dtai (given z) = refl
-in_dtai (refused n) = refl
+module _ {A : Type 0} (f : A → List ℕ) {a : Answer A} {bytes : List ℕ} (is : bytes ≡ told f a) where
+  -- the values are put
+  pub told_given : {v : A} → given v ≡ a → bytes ≡ f v
+  told_given e = is ∙ ap (told f) (sym e)
 
-in_tai : (a : Answer ℕ) → told decimal a ≡ of_tai (tai_answer a)
-in_tai (given x) = refl
-in_tai (refused n) = refl
-
-in_utc : (x : ℕ) (a : Answer Utc) → told (values_of (ask_tai_to_utc x)) a ≡ of_utc (utc_answer a)
-in_utc x (given u) = refl
-in_utc x (refused n) = refl
-
-in_uts : (a : Answer ℕ) → told decimal a ≡ of_uts (uts_answer a)
-in_uts (given u) = refl
-in_uts (refused n) = refl
-
-in_micros : (a : Answer ℕ) → told decimal a ≡ of_micros (micros_answer a)
-in_micros (given t) = refl
-in_micros (refused n) = refl
-
--- what is put for a question is its answer in bytes
-module _ (s : Schedule) {q : Asked} {day : ℕ} where
-  pub of_dtai_lem : {a : DtaiAnswer} → q ≡ asked.Dtai day → a ≡ dtai_answer (dtai_on s day) → asked_of (question_of q) s ≡ of_dtai a
-  unfolding asked_of
-  of_dtai_lem e f = rw (e, f) (in_dtai (dtai_on s day))
-
-  pub of_tai_lem : {a : TaiAnswer} {t : UtcMicros} → q ≡ asked.Tai day t → a ≡ tai_answer (utc_to_tai s day t.0) → asked_of (question_of q) s ≡ of_tai a
-  unfolding asked_of
-  of_tai_lem {t = t} e f = rw (e, f) (in_tai (utc_to_tai s day t.0))
-
-  pub of_uts_lem : {a : UtsAnswer} {t : UtcMicros} → q ≡ asked.Uts day t → a ≡ uts_answer (utc_to_uts s day t.0) → asked_of (question_of q) s ≡ of_uts a
-  unfolding asked_of
-  of_uts_lem {t = t} e f = rw (e, f) (in_uts (utc_to_uts s day t.0))
-
-  pub of_micros_lem : {a : MicrosAnswer} {u : UtsNanos} → q ≡ asked.Unsmooth day u → a ≡ micros_answer (uts_to_utc s day u.0) → asked_of (question_of q) s ≡ of_micros a
-  unfolding asked_of
-  of_micros_lem {u = u} e f = rw (e, f) (in_micros (uts_to_utc s day u.0))
-
-pub of_utc_lem : (s : Schedule) {q : Asked} {a : UtcAnswer} {x : TaiMicros} → q ≡ asked.Utc x → a ≡ utc_answer (tai_to_utc s x.0) → asked_of (question_of q) s ≡ of_utc a
-unfolding asked_of
-of_utc_lem s {x = x} e f = rw (e, f) (in_utc x.0 (tai_to_utc s x.0))
+  -- or the refusal is handed over, and nothing is put
+  pub told_refused : (result : Result (Unit {0}) Refusal) (P : Type 0) (out : Output) (why : Refusal) → IsErrAnd result (λ r. r ≡ why) → refused (number_of why) ≡ a
+      → MatchResult result (λ _. P) (λ r. (out ≡ out) × (bytes ≡ refusal (number_of r)))
+  told_refused (Ok v) P out why h e = absurd h
+  told_refused (Err r) P out why h e = (refl, is ∙ (ap (told f) (sym e) ∙ rw h))

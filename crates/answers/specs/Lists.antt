@@ -9,9 +9,10 @@ use Rattle.schedule.specs.Answers.{Reading, by_reading}
 use Rattle.text.specs.Read.{read_text}
 use Rattle.nybbles.specs.Write.{nybbles_of}
 use Rattle.compare.specs.declared.longer.Chosen.{Chosen}
-use Rattle.compare.specs.declared.longer.Chosen.TheVariants.{First, Second, Refused}
+use Rattle.compare.specs.declared.longer.Chosen.TheVariants.{First, Second}
 use Rattle.compare.specs.Compare.{comparison_of}
 use Rattle.compare.specs.Longer.{chosen}
+use Rattle.refusals.specs.Answer.{Answer, given, refused}
 use Rattle.ascii.specs.Refusal.{refusal, refusal_at}
 
 -- the embedded list, the official table of July 2026
@@ -34,10 +35,10 @@ abbrev pub comparison_answer : Bool → List ℕ → List ℕ → List ℕ
 comparison_answer lines x y = comparison_of lines (list_of x) (list_of y)
 
 -- the longer of two lists, or the refusal
-unfoldable pub longer_by : Chosen → List ℕ → List ℕ → List ℕ
-longer_by First x y = x
-longer_by Second x y = y
-longer_by (Refused n) x y = refusal n
+unfoldable pub longer_by : Answer Chosen → List ℕ → List ℕ → List ℕ
+longer_by (given First) x y = x
+longer_by (given Second) x y = y
+longer_by (refused n) x y = refusal n
 
 abbrev pub longer_answer : List ℕ → List ℕ → List ℕ
 longer_answer x y = longer_by (chosen (list_of x) (list_of y)) (list_of x) (list_of y)

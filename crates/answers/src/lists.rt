@@ -4,58 +4,53 @@ ghost use Rattle.ascii.specs.Output.{PutsUpTo};
 ghost use Rattle.ascii.specs.Hex.{hex};
 ghost use Rattle.schedule.specs.Schedule.{leaves_gap, well_formed};
 ghost use Rattle.schedule.specs.WordLayout.{meant};
-ghost use Rattle.schedule.specs.Answers.{HandsReading};
+ghost use Rattle.schedule.specs.Answers.{ReadsInto};
 ghost use Rattle.text.specs.Read.{read_text};
 ghost use Rattle.nybbles.specs.Write.{nybbles_of};
-ghost use Rattle.answers.specs.Private.{named_by};
 ghost use Rattle.answers.specs.Lists.{list_of, nybbles_answer};
 
-use ascii::hex::put_hex;
-use ascii::parts::same;
-use ascii::refusal::put_refusal_at;
+use ascii::output::Output;
+use schedule::ParseError;
 
 // The embedded list.
-pub(crate) const CURRENT: [u8; 83] =
-    *b"6+6+12+12+12+12+12+12+12+18+12+12+24+30+24+12+18+12+12+18+18+18+84+36+42+36+18+125?";
+const CURRENT: &[u8] =
+    b"6+6+12+12+12+12+12+12+12+18+12+12+24+30+24+12+18+12+12+18+18+18+84+36+42+36+18+125?";
 
-// The list that a field names: the embedded one, which is lent, for the word `current`, else the field itself.
-pub(crate) fn list_of<'a>(field: &'a [u8], embedded: &'a [u8]) -> &'a [u8]
-    ensures { result.now ≡ named_by embedded.now field.now }
+// The list that a field names: the embedded one for the word `current`, else the field itself.
+#[tactic(auto, using(ascii::proofs::Names::names), unfolding(crate::specs::Lists::list_of))]
+pub(crate) fn list_of(field: &[u8]) -> &[u8]
+    ensures { result.now ≡ list_of field.now }
 {
-    if same(field, b"current") {
-        return embedded;
+    match field {
+        b"current" => CURRENT,
+        _ => field,
     }
-    field
 }
 
 // Reads the list that a field names into its words.
-pub fn read_list(field: &[u8], words: &mut [u32; 514], place: &mut u64) -> u8
-    ensures { HandsReading (read_text (list_of field.now)) result words.new place.new }
+pub fn read_list(field: &[u8], words: &mut [u32; 514]) -> Result<(), ParseError>
+    ensures { ReadsInto (read_text (list_of field.now)) result words.new }
 {
-    let embedded = CURRENT;
-    text::read_text(list_of(field, &embedded), words, place)
+    text::read_text(list_of(field), words)
 }
 
 // Puts a list as nybbles, in hex.
-fn put_nybbles(out: &mut [u8], at: usize, words: &[u32; 514]) -> usize
+fn put_nybbles(out: &mut Output<'_>, words: &[u32; 514])
     requires { (well_formed (meant words.now) ≡ true) × (leaves_gap (meant words.now) ≡ true) }
-    ensures { PutsUpTo 4800 out.old out.new at result (hex (nybbles_of (meant words.now))) }
+    ensures { PutsUpTo 4800 out.old out.new (hex (nybbles_of (meant words.now))) }
 {
     let mut bytes = [0u8; 2400];
-    let w = nybbles::write_nybbles(words, &mut bytes);
-    let n = w.count;
-    put_hex(out, at, &bytes[..n])
+    let n = nybbles::write_nybbles(words, &mut bytes).unwrap();
+    out.put_hex(&bytes[..n]);
 }
 
 // Puts the answer about a list as nybbles.
-pub fn put_list_nybbles(out: &mut [u8], at: usize, list: &[u8]) -> usize
-    ensures { PutsUpTo 4800 out.old out.new at result (nybbles_answer list.now) }
+pub fn put_list_nybbles(out: &mut Output<'_>, list: &[u8])
+    ensures { PutsUpTo 4800 out.old out.new (nybbles_answer list.now) }
 {
     let mut words = [0u32; 514];
-    let mut place: u64 = 0;
-    let number = read_list(list, &mut words, &mut place);
-    if number != 0 {
-        return put_refusal_at(out, at, number, place as usize);
+    match read_list(list, &mut words) {
+        Ok(()) => put_nybbles(out, &words),
+        Err(error) => out.put_refusal_at(error.refusal, error.place),
     }
-    put_nybbles(out, at, &words)
 }

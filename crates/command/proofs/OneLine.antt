@@ -8,8 +8,7 @@ use lib.Dec.{leb}
 use lib.ListN.{length, get_or}
 use borrow.Author.Tests.{eqb-false}
 use Rattle.ascii.specs.Decimal.{number_of}
-use Rattle.ascii.specs.declared.decimal.Number.{Number}
-use Rattle.ascii.specs.declared.decimal.Number.TheVariants.{Given, Missing}
+use Rattle.std.specs.Prelude.{Option, Some, None}
 use Rattle.ascii.specs.Hex.{is_hex, unhex, hex}
 use Rattle.ascii.specs.Parts.{parts}
 use Rattle.ascii.proofs.Fields.{has_no}
@@ -21,7 +20,6 @@ use Rattle.nybbles.specs.Write.{nybbles_of}
 use Rattle.refusals.specs.Answer.{Answer, given, refused}
 use Rattle.clock.specs.Question.{Question, ask_dtai, ask_utc_to_tai, ask_tai_to_utc, ask_utc_to_uts, ask_uts_to_utc, Value, ask}
 use Rattle.line.specs.declared.words.Word.{Word}
-use Rattle.line.specs.declared.words.Word.TheVariants.{Other}
 use Rattle.line.specs.declared.words.Form.{Form}
 use Rattle.line.specs.declared.words.Form.TheVariants as form
 use Rattle.line.specs.declared.words.ListWord.{ListWord}
@@ -39,7 +37,7 @@ use Rattle.answers.specs.Lists.{list_of, about_read}
 use Rattle.answers.specs.Times.{values_of, told, asked_of, asked_under}
 use Rattle.schedule.specs.Answers.{Reading}
 use Rattle.schedule.specs.Schedule.{Schedule}
-use Rattle.command.specs.Answer.{one_field, two_fields, three_fields, a_number, of_list, of_hex, of_number, of_time, of_pair, answer_by, answer_for, answer_parts, max_line, too_long, answer_to}
+use Rattle.command.specs.Answer.{one_field, two_fields, three_fields, a_number, of_list, of_hex, of_number, of_time, of_pair, answer_by, answer_for, answer_first, answer_parts, max_line, too_long, answer_to}
 use Rattle.command.specs.Lines.{answer_line, asking}
 use Rattle.command.proofs.TwoLists.{in_reading, in_comparison, in_longer}
 use Rattle.command.proofs.Unbroken.{in_text, in_expected, in_shown}
@@ -67,9 +65,9 @@ in_asked list q = in_read (read_text (list_of list)) (asked_of q) (λ s. in_told
 -- ---- answers to a word and its fields
 
 module _ {e : List ℕ} (u : Unbroken e) where
-  in_number : (r : Number) (f : ℕ → List ℕ) → ((n : ℕ) → Unbroken (f n)) → Unbroken (a_number e r f)
-  in_number (Given n) f v = v n
-  in_number Missing f v = u
+  in_number : (r : Option ℕ) (f : ℕ → List ℕ) → ((n : ℕ) → Unbroken (f n)) → Unbroken (a_number e r f)
+  in_number (Some n) f v = v n
+  in_number None f v = u
 
   in_one : (fields : List (List ℕ)) (f : List ℕ → List ℕ) → ((x : List ℕ) → Unbroken (f x)) → Unbroken (one_field e fields f)
   in_one [] f v = u
@@ -108,15 +106,18 @@ by_form {e} u (form.ListAndTime w) fields =
     (λ x y z. in_number u (number_of y) (λ day. a_number e (number_of z) (λ t. asked_under x (of_time w day t)))
     (λ day. in_number u (number_of z) (λ t. asked_under x (of_time w day t)) (λ t. in_asked x (of_time w day t))))
 by_form u (form.TwoLists w) fields = in_two u fields (of_pair false w) (of_pair_lem w)
-by_form u form.None fields = u
 
 with_fields : (w : Word) (fields : List (List ℕ)) → Unbroken (answer_for false w fields)
 unfolding answer_for
-with_fields w fields = by_form (in_expected w) (form_of w) fields
+with_fields w fields = by_form (in_expected (Some w)) (form_of w) fields
+
+with_first : (w : Option Word) (fields : List (List ℕ)) → Unbroken (answer_first false w fields)
+with_first None fields = in_expected None
+with_first (Some w) fields = with_fields w fields
 
 in_parts : (ps : List (List ℕ)) → Unbroken (answer_parts false ps)
-in_parts [] = in_expected Other
-in_parts (w ∷ fields) = with_fields (word_of w) fields
+in_parts [] = in_expected None
+in_parts (w ∷ fields) = with_first (word_of w) fields
 
 too_long_lem : Unbroken too_long
 unfolding has_no

@@ -11,7 +11,8 @@ use Rattle.schedule.specs.Answers.{Reading, by_reading}
 use Rattle.text.specs.Read.{read_text}
 use Rattle.text.proofs.Spelling.{one_spelling}
 use Rattle.compare.specs.declared.longer.Chosen.{Chosen}
-use Rattle.compare.specs.declared.longer.Chosen.TheVariants.{First, Second, Refused}
+use Rattle.compare.specs.declared.longer.Chosen.TheVariants.{First, Second}
+use Rattle.refusals.specs.Answer.{Answer, given, refused}
 use Rattle.compare.specs.Compare.{Line, lines_of, joined, comparison_of}
 use Rattle.compare.specs.Longer.{chosen}
 use Rattle.compare.proofs.TwoTexts.{Taken}
@@ -44,11 +45,11 @@ in_comparison x y =
 read : (x : List ℕ) → Taken x → Unbroken x
 read x t = rw (one_spelling x t) at (in_text (read_text x).schedule)
 
-longer : (x y : List ℕ) (c : Chosen) → chosen x y ≡ c → Unbroken (longer_by c x y)
+longer : (x y : List ℕ) (c : Answer Chosen) → c ≡ chosen x y → Unbroken (longer_by c x y)
 unfolding longer_by
-longer x y First e = read x (first_read x y e)
-longer x y Second e = read y (second_read x y e)
-longer x y (Refused n) e = in_refusal n
+longer x y (given First) e = read x (first_read x y e)
+longer x y (given Second) e = read y (second_read x y e)
+longer x y (refused n) e = in_refusal n
 
 pub in_longer : (x y : List ℕ) → Unbroken (longer_by (chosen x y) x y)
 in_longer x y = longer x y (chosen x y) refl

@@ -12,7 +12,8 @@ use Rattle.schedule.specs.Schedule.{Schedule, expiry_month}
 use Rattle.text.specs.Write.{digits, text_from, text_of}
 use Rattle.compare.proofs.Shown.{sign}
 use Rattle.line.specs.declared.words.Word.{Word}
-use Rattle.line.specs.declared.words.Word.TheVariants.{Show, Nybbles, Text, Dtai, Tai, Utc, Uts, Unsmooth, Compare, Longer, Other}
+use Rattle.line.specs.declared.words.Word.TheVariants.{Show, Nybbles, Text, Dtai, Tai, Utc, Uts, Unsmooth, Compare, Longer}
+use Rattle.std.specs.Prelude.{Option, Some, None}
 use Rattle.ascii.specs.Lines.{between}
 use Rattle.line.specs.Words.{usage, expected}
 use Rattle.show.specs.Show.{date, date_of, stretch, stretches, shown}
@@ -34,19 +35,19 @@ in_text s = text_from_lem 0 s.leaps (expiry_month s)
 
 -- ---- what was expected
 
-pub in_expected : (w : Word) → Unbroken (expected w)
+pub in_expected : (w : Option Word) → Unbroken (expected w)
 unfolding has_no expected usage
-in_expected Show = record { none = refl }
-in_expected Nybbles = record { none = refl }
-in_expected Text = record { none = refl }
-in_expected Dtai = record { none = refl }
-in_expected Tai = record { none = refl }
-in_expected Utc = record { none = refl }
-in_expected Uts = record { none = refl }
-in_expected Unsmooth = record { none = refl }
-in_expected Compare = record { none = refl }
-in_expected Longer = record { none = refl }
-in_expected Other = record { none = refl }
+in_expected (Some Show) = record { none = refl }
+in_expected (Some Nybbles) = record { none = refl }
+in_expected (Some Text) = record { none = refl }
+in_expected (Some Dtai) = record { none = refl }
+in_expected (Some Tai) = record { none = refl }
+in_expected (Some Utc) = record { none = refl }
+in_expected (Some Uts) = record { none = refl }
+in_expected (Some Unsmooth) = record { none = refl }
+in_expected (Some Compare) = record { none = refl }
+in_expected (Some Longer) = record { none = refl }
+in_expected None = record { none = refl }
 
 -- ---- stretches
 

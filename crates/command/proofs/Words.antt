@@ -7,7 +7,7 @@ use mathlib.Core.List.{List, [], ◌∷◌}
 use Prim.Native.Nat.{ℕ}
 use Rattle.ascii.specs.Ascii.{ascii}
 use Rattle.ascii.specs.Decimal.{number_of}
-use Rattle.ascii.specs.declared.decimal.Number.TheVariants.{Given, Missing}
+use Rattle.std.specs.Prelude.{Some, None}
 use Rattle.ascii.specs.Hex.{is_hex, unhex}
 use Rattle.ascii.specs.Parts.{same}
 use Rattle.text.specs.Write.{text_of}
@@ -24,43 +24,43 @@ use Rattle.command.specs.Answer.{of_list, of_hex, of_pair, answer_for}
 
 -- ---- the words by their names
 
-pub show_named : word_of (ascii "show") ≡ Show
+pub show_named : word_of (ascii "show") ≡ Some Show
 unfolding word_of same
 show_named = refl
 
-pub nybbles_named : word_of (ascii "nybbles") ≡ Nybbles
+pub nybbles_named : word_of (ascii "nybbles") ≡ Some Nybbles
 unfolding word_of same
 nybbles_named = refl
 
-pub text_named : word_of (ascii "text") ≡ Text
+pub text_named : word_of (ascii "text") ≡ Some Text
 unfolding word_of same
 text_named = refl
 
-pub dtai_named : word_of (ascii "dtai") ≡ Dtai
+pub dtai_named : word_of (ascii "dtai") ≡ Some Dtai
 unfolding word_of same
 dtai_named = refl
 
-pub tai_named : word_of (ascii "tai") ≡ Tai
+pub tai_named : word_of (ascii "tai") ≡ Some Tai
 unfolding word_of same
 tai_named = refl
 
-pub utc_named : word_of (ascii "utc") ≡ Utc
+pub utc_named : word_of (ascii "utc") ≡ Some Utc
 unfolding word_of same
 utc_named = refl
 
-pub uts_named : word_of (ascii "uts") ≡ Uts
+pub uts_named : word_of (ascii "uts") ≡ Some Uts
 unfolding word_of same
 uts_named = refl
 
-pub unsmooth_named : word_of (ascii "unsmooth") ≡ Unsmooth
+pub unsmooth_named : word_of (ascii "unsmooth") ≡ Some Unsmooth
 unfolding word_of same
 unsmooth_named = refl
 
-pub compare_named : word_of (ascii "compare") ≡ Compare
+pub compare_named : word_of (ascii "compare") ≡ Some Compare
 unfolding word_of same
 compare_named = refl
 
-pub longer_named : word_of (ascii "longer") ≡ Longer
+pub longer_named : word_of (ascii "longer") ≡ Some Longer
 unfolding word_of same
 longer_named = refl
 
@@ -97,45 +97,45 @@ pub text_asks : (lines : Bool) (field : List ℕ) → is_hex field ≡ true → 
 unfolding form_of answer_for of_hex
 text_asks lines field h = simp h
 
-pub no_hex : (lines : Bool) (field : List ℕ) → is_hex field ≡ false → answer_for lines Text (field ∷ []) ≡ expected Text
+pub no_hex : (lines : Bool) (field : List ℕ) → is_hex field ≡ false → answer_for lines Text (field ∷ []) ≡ expected (Some Text)
 unfolding form_of answer_for of_hex
 no_hex lines field h = simp h
 
 -- a list and a number
-pub dtai_asks : (lines : Bool) (list x : List ℕ) (n : ℕ) → number_of x ≡ Given n → answer_for lines Dtai (list ∷ x ∷ []) ≡ asked_under list (ask_dtai n)
+pub dtai_asks : (lines : Bool) (list x : List ℕ) (n : ℕ) → number_of x ≡ Some n → answer_for lines Dtai (list ∷ x ∷ []) ≡ asked_under list (ask_dtai n)
 unfolding form_of answer_for
 dtai_asks lines list x n e = simp e
 
-pub utc_asks : (lines : Bool) (list x : List ℕ) (n : ℕ) → number_of x ≡ Given n → answer_for lines Utc (list ∷ x ∷ []) ≡ asked_under list (ask_tai_to_utc n)
+pub utc_asks : (lines : Bool) (list x : List ℕ) (n : ℕ) → number_of x ≡ Some n → answer_for lines Utc (list ∷ x ∷ []) ≡ asked_under list (ask_tai_to_utc n)
 unfolding form_of answer_for
 utc_asks lines list x n e = simp e
 
 -- a list, a day and a time of it
-pub tai_asks : (lines : Bool) (list x y : List ℕ) (day t : ℕ) → number_of x ≡ Given day → number_of y ≡ Given t
+pub tai_asks : (lines : Bool) (list x y : List ℕ) (day t : ℕ) → number_of x ≡ Some day → number_of y ≡ Some t
     → answer_for lines Tai (list ∷ x ∷ y ∷ []) ≡ asked_under list (ask_utc_to_tai day t)
 unfolding form_of answer_for
 tai_asks lines list x y day t e f = simp (e, f)
 
-pub uts_asks : (lines : Bool) (list x y : List ℕ) (day t : ℕ) → number_of x ≡ Given day → number_of y ≡ Given t
+pub uts_asks : (lines : Bool) (list x y : List ℕ) (day t : ℕ) → number_of x ≡ Some day → number_of y ≡ Some t
     → answer_for lines Uts (list ∷ x ∷ y ∷ []) ≡ asked_under list (ask_utc_to_uts day t)
 unfolding form_of answer_for
 uts_asks lines list x y day t e f = simp (e, f)
 
-pub unsmooth_asks : (lines : Bool) (list x y : List ℕ) (day t : ℕ) → number_of x ≡ Given day → number_of y ≡ Given t
+pub unsmooth_asks : (lines : Bool) (list x y : List ℕ) (day t : ℕ) → number_of x ≡ Some day → number_of y ≡ Some t
     → answer_for lines Unsmooth (list ∷ x ∷ y ∷ []) ≡ asked_under list (ask_uts_to_utc day t)
 unfolding form_of answer_for
 unsmooth_asks lines list x y day t e f = simp (e, f)
 
 -- ---- other fields: one too few, one too many, and one that gives no number
 
-pub too_few : (lines : Bool) (list x : List ℕ) → (answer_for lines Dtai (list ∷ []) ≡ expected Dtai) × (answer_for lines Tai (list ∷ x ∷ []) ≡ expected Tai)
+pub too_few : (lines : Bool) (list x : List ℕ) → (answer_for lines Dtai (list ∷ []) ≡ expected (Some Dtai)) × (answer_for lines Tai (list ∷ x ∷ []) ≡ expected (Some Tai))
 unfolding form_of answer_for
 too_few lines list x = (refl, refl)
 
-pub too_many : (lines : Bool) (x y z : List ℕ) (more : List (List ℕ)) → (answer_for lines Show (x ∷ y ∷ more) ≡ expected Show) × (answer_for lines Utc (x ∷ y ∷ z ∷ more) ≡ expected Utc)
+pub too_many : (lines : Bool) (x y z : List ℕ) (more : List (List ℕ)) → (answer_for lines Show (x ∷ y ∷ more) ≡ expected (Some Show)) × (answer_for lines Utc (x ∷ y ∷ z ∷ more) ≡ expected (Some Utc))
 unfolding form_of answer_for
 too_many lines x y z more = (refl, refl)
 
-pub no_number : (lines : Bool) (list x : List ℕ) → number_of x ≡ Missing → answer_for lines Utc (list ∷ x ∷ []) ≡ expected Utc
+pub no_number : (lines : Bool) (list x : List ℕ) → number_of x ≡ None → answer_for lines Utc (list ∷ x ∷ []) ≡ expected (Some Utc)
 unfolding form_of answer_for
 no_number lines list x e = simp e

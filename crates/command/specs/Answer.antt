@@ -1,18 +1,15 @@
 -- What a question line is answered.
 -- Assumes nothing: these are definitions.
-use Rattle.std.specs.Prelude.{ℕ, ◌≤◌, min, ◌≡◌, Bool, cond, List, [], ◌∷◌, leb, length}
+use Rattle.std.specs.Prelude.{ℕ, ◌≤◌, min, ◌≡◌, Bool, cond, List, [], ◌∷◌, leb, length, Option, Some, None}
 use Rattle.ascii.specs.Ascii.{ascii}
 use Rattle.ascii.specs.Output.{filled}
 use Rattle.ascii.specs.Decimal.{number_of}
-use Rattle.ascii.specs.declared.decimal.Number.{Number}
-use Rattle.ascii.specs.declared.decimal.Number.TheVariants.{Given, Missing}
 use Rattle.ascii.specs.Hex.{is_hex, unhex}
 use Rattle.ascii.specs.Parts.{parts}
 use Rattle.text.specs.Write.{text_of}
 use Rattle.nybbles.specs.Read.{read_nybbles}
 use Rattle.clock.specs.Question.{Question, ask_dtai, ask_utc_to_tai, ask_tai_to_utc, ask_utc_to_uts, ask_uts_to_utc}
 use Rattle.line.specs.declared.words.Word.{Word}
-use Rattle.line.specs.declared.words.Word.TheVariants.{Other}
 use Rattle.line.specs.declared.words.Form.{Form}
 use Rattle.line.specs.declared.words.Form.TheVariants as form
 use Rattle.line.specs.declared.words.ListWord.{ListWord}
@@ -45,9 +42,9 @@ three_fields e [] f = e
 three_fields e (x ∷ fields) f = two_fields e fields (f x)
 
 -- the number that a field gives
-abbrev pub a_number : List ℕ → Number → (ℕ → List ℕ) → List ℕ
-a_number e (Given n) f = f n
-a_number e Missing f = e
+abbrev pub a_number : List ℕ → Option ℕ → (ℕ → List ℕ) → List ℕ
+a_number e (Some n) f = f n
+a_number e None f = e
 
 -- ---- what each word is answered
 
@@ -85,15 +82,19 @@ answer_by lines e (form.ListAndNumber w) fields = two_fields e fields (λ x y. a
 answer_by lines e (form.ListAndTime w) fields =
     three_fields e fields (λ x y z. a_number e (number_of y) (λ day. a_number e (number_of z) (λ t. asked_under x (of_time w day t))))
 answer_by lines e (form.TwoLists w) fields = two_fields e fields (of_pair lines w)
-answer_by lines e form.None fields = e
 
 unfoldable pub answer_for : Bool → Word → List (List ℕ) → List ℕ
-answer_for lines w fields = answer_by lines (expected w) (form_of w) fields
+answer_for lines w fields = answer_by lines (expected (Some w)) (form_of w) fields
+
+-- the answer where the first field is a word, and where it is none
+abbrev pub answer_first : Bool → Option Word → List (List ℕ) → List ℕ
+answer_first lines None fields = expected None
+answer_first lines (Some w) fields = answer_for lines w fields
 
 -- the answer to the parts of a line between its spaces, of which none is left out where it is empty: a word, and the fields after it
 abbrev pub answer_parts : Bool → List (List ℕ) → List ℕ
-answer_parts lines [] = expected Other
-answer_parts lines (w ∷ fields) = answer_for lines (word_of w) fields
+answer_parts lines [] = expected None
+answer_parts lines (w ∷ fields) = answer_first lines (word_of w) fields
 
 -- a question line has at most 8,192 bytes
 abbrev pub max_line : ℕ

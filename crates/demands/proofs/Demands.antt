@@ -23,7 +23,7 @@ use Rattle.schedule.specs.declared.Leap.{Leap}
 use Rattle.schedule.specs.Schedule.{Schedule, blank_schedule, last_leap, rounded_down, leaves_gap, well_formed}
 use Rattle.schedule.specs.Rules.{WellFormed, Words, ExtendsBy}
 use Rattle.schedule.specs.WordLayout.{leap_words, words_of, meant}
-use Rattle.schedule.specs.Answers.{Reading, HandsReading, fitting, fitted, writing, written}
+use Rattle.schedule.specs.Answers.{Reading, HandsReading, fitted, writing, written}
 use Rattle.schedule.specs.Extends.{Extends}
 use Rattle.schedule.proofs.Gaps as gaps
 use Rattle.schedule.proofs.InWords as schedule
@@ -287,22 +287,22 @@ nybbles_blank bytes h = nybble_sound.refused_blank bytes h
 -- is shorter than the list; refusing, they return the number and 0 bytes and change nothing
 module _ (s : Schedule) (bytes out : List ℕ) where
   pub writer_11 : well_formed s ≡ false → (writing s bytes (length out) ≡ refused 11) × (or_zero 0 (writing s bytes (length out)) ≡ 0) × (written s bytes out ≡ out)
-  unfolding writing written
+  unfolding written
   writer_11 e = (rw e, rw e, rw e)
 
   pub writer_17 : well_formed s ≡ true → leaves_gap s ≡ false → (writing s bytes (length out) ≡ refused 17) × (or_zero 0 (writing s bytes (length out)) ≡ 0) × (written s bytes out ≡ out)
-  unfolding writing written
+  unfolding written
   writer_17 w g = (rw (w, g), rw (w, g), rw (w, g))
 
   pub writer_7 : well_formed s ≡ true → leaves_gap s ≡ true → length out < length bytes
       → (writing s bytes (length out) ≡ refused 7) × (or_zero 0 (writing s bytes (length out)) ≡ 0) × (written s bytes out ≡ out)
-  unfolding writing written fitting fitted
+  unfolding written fitted
   writer_7 w g h = let short = lt-leb (length bytes) (length out) h in (rw (w, g, short), rw (w, g, short), rw (w, g, short))
 
   -- accepting, they return number 0 and the byte count, and bytes beyond it keep what they held
   pub writer_0 : well_formed s ≡ true → leaves_gap s ≡ true → length bytes ≤ length out
       → (writing s bytes (length out) ≡ given (length bytes)) × (written s bytes out ≡ bytes ++ drop (length bytes) out)
-  unfolding writing written fitting fitted
+  unfolding written fitted
   writer_0 w g h = let room = le-leb (length bytes) (length out) h in (rw (w, g, room), rw (w, g, room))
 
 pub no_gap_left : (s : Schedule) → well_formed s ≡ true → (leaves_gap s ≡ false) ↔ (month_of s.expiry ≡ last_leap 0 s.leaps)

@@ -6,16 +6,8 @@ use Rattle.text.proofs.Sound.{read_formed}
 use Rattle.schedule.proofs.ByReading.{read_refused, read_taken}
 use Rattle.command.proofs.lists.put_list_shown.Goals as goal
 
-pub returns-then-number-ne0 : goal.returns-then-number-ne0
-returns-then-number-ne0 c =
-    let put_refusal_at = c.put_refusal_at in
-    let read_list = c.read_list-number in
-    let if1 = c.if-number-ne0 in
-    few put_refusal_at.ensures (read_refused (read_formed _) read_list.ensures refusal_at _ if1.true) (omega arith)
+pub returns-in-Ok : goal.returns-in-Ok
+returns-in-Ok c = few c.put_shown.ensures (read_taken (read_formed _) refusal_at _ c.in-Ok.ensures) (omega arith)
 
-pub returns : goal.returns
-returns c =
-    let put_shown = c.put_shown in
-    let read_list = c.read_list-number in
-    let if1 = c.if-number-ne0 in
-    few put_shown.ensures (read_taken (read_formed _) read_list.ensures refusal_at _ if1.false) (omega arith)
+pub returns-in-Err : goal.returns-in-Err
+returns-in-Err c = few c.put_refusal_at.ensures (read_refused (read_formed _) refusal_at _ c.in-Err.ensures) (omega arith)

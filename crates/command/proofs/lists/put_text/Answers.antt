@@ -7,34 +7,21 @@ use Rattle.schedule.specs.WordLayout.{meant}
 use Rattle.ascii.proofs.Putting.{text_put}
 use Rattle.text.specs.Write.{text_of}
 use Rattle.text.proofs.Room.{at_most}
-use Rattle.answers.proofs.Held.{inside, holds, all_held}
+use Rattle.answers.proofs.Held.{is_written, holds}
 use Rattle.command.proofs.lists.put_text.Goals as goal
 
 -- the room that is lent
 abbrev lent : List ℕ
 lent = replicate 1028 0
 
-pub slice_bounds-bytes-end : goal.slice_bounds-bytes-end
-slice_bounds-bytes-end c =
-    let args = c.args in
-    let pre = c.requires in
-    let write_text = c.write_text-w in
-    let s = meant args.words.now in
-    inside s (text_of s) lent pre.0 pre.1 (at_most s pre.0) write_text.ensures.0 write_text.ensures.1
-
-pub slice_bounds-put_all-end : goal.slice_bounds-put_all-end
-slice_bounds-put_all-end c =
-    let args = c.args in
-    let pre = c.requires in
-    let write_text = c.write_text-w in
-    let s = meant args.words.now in
-    all_held s (text_of s) lent pre.0 pre.1 (at_most s pre.0) write_text.ensures.0 write_text.ensures.1
+pub unwrap-n-requires : goal.unwrap-n-requires
+unwrap-n-requires c =
+    let s = meant c.args.words.now in
+    is_written s (text_of s) lent c.requires.0 c.requires.1 (at_most s c.requires.0) _ c.write_text.ensures.0
 
 pub returns : goal.returns
 returns c =
-    let args = c.args in
-    let pre = c.requires in
-    let write_text = c.write_text-w in
-    let put_all_lem = c.put_all in
-    let s = meant args.words.now in
-    let e = holds s (text_of s) lent pre.0 pre.1 (at_most s pre.0) write_text.ensures.0 write_text.ensures.1 in text_put put_all_lem.ensures (sym e) (rw e (at_most s pre.0))
+    let s = meant c.args.words.now in
+    let room = at_most s c.requires.0 in
+    let e = holds s (text_of s) lent c.requires.0 c.requires.1 room c.unwrap-n.ensures c.write_text.ensures.0 c.write_text.ensures.1 in
+    text_put c.put_all.ensures (sym e) (rw e room)
