@@ -42,7 +42,8 @@ fn answer_each<T: Copy, F: Fn(PreparedList<'_>, usize) -> Result<T, Refusal>>(
             { ask(prepared, i) };
             fill(n, answer, numbers, values, zero);
         }
-        Err(refusal) => fill(n, |_i| Err(refusal), numbers, values, zero),
+        // The refusal is named, so that this loop is compiled to vectors.
+        Err(_) => fill(n, |_i| Err(Refusal::NotWellFormed), numbers, values, zero),
     }
     n as u64
 }
@@ -152,7 +153,7 @@ pub fn tai_to_utc(
             let prepared = PreparedList::new(list, &room);
             fill_utc(n, |i| prepared.utc(tais[i]), numbers, days, micros);
         }
-        Err(refusal) => fill_utc(n, |_i| Err(refusal), numbers, days, micros),
+        Err(_) => fill_utc(n, |_i| Err(Refusal::NotWellFormed), numbers, days, micros),
     }
     n as u64
 }

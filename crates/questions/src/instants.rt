@@ -67,8 +67,6 @@ pub(crate) fn check_instant(
 }
 
 // What an instant of UTC is refused with: at last it must lie within the day's own length. Below the cut-off it is known on every known date.
-// It goes into the loops of many, like `check_date`.
-#[inline(always)]
 pub(crate) fn check_utc(last: u64, w: Ending, cutoff: u64, day: u64, t: u64) -> Result<(), Refusal>
     requires { cutoff ≤ short_day }
     ensures checks { answer_of result ≡ at_utc true last w cutoff day t tt }

@@ -1,6 +1,7 @@
 -- `many::answer_each` meets its contract. Assumes nothing.
 use Rattle.std.proofs.Common.{◌≡◌, Err, rules}
-use Rattle.refusals.specs.Refusals.{not_well_formed, number_of}
+use Rattle.refusals.specs.Refusals.{not_well_formed}
+use Rattle.refusals.specs.declared.Refusal.TheVariants.{NotWellFormed}
 use Rattle.schedule.specs.Schedule.{well_formed}
 use Rattle.schedule.specs.WordLayout.{meant}
 use Rattle.many.proofs.Preparing.{all_clear}
@@ -26,8 +27,8 @@ returns g c answers a =
           (same_list answers prepared.list.words.now w.in-Ok.list.words.now words w.new-prepared.ensures w.in-Ok.ensures
           (record { each = λ i r h q. (a.given prepared).each i r h (search rules) }))))
       | in-Err w ↦
-          let none = no_list words (well_formed s) (number_of w.in-Err.refusal) not_well_formed w.in-Err.ensures in
+          let none = no_list words (well_formed s) _ not_well_formed w.in-Err.ensures in
           rw (w.numbers-is, w.values-is)
           (hands_many (a.its_count s) (w.fill-in-Err.ensures (answers s)
-          (record { each = λ i r h q. let e : r ≡ Err w.in-Err.refusal = search rules in rw (e, none.1) (a.none s none.0 i h) })))
+          (record { each = λ i r h q. let e : r ≡ Err NotWellFormed = search rules in rw e (a.none s none.0 i h) })))
     ]

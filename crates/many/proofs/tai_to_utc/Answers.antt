@@ -1,9 +1,10 @@
 -- `many::tai_to_utc` meets its contract. Assumes nothing.
 use mathlib.Core.List.{map}
 use lib.ListN.{length-map}
-use Rattle.std.proofs.Common.{◌≡◌, Err, ap, ◌∙◌, rules, arith}
-use Rattle.refusals.specs.Refusals.{not_well_formed, number_of}
-use Rattle.refusals.specs.Answer.{refused, answer_by}
+use Rattle.std.proofs.Common.{◌≡◌, Err, ap, rules, arith}
+use Rattle.refusals.specs.declared.Refusal.TheVariants.{NotWellFormed}
+use Rattle.refusals.specs.Refusals.{not_well_formed}
+use Rattle.refusals.specs.Answer.{answer_by}
 use Rattle.schedule.specs.Schedule.{well_formed}
 use Rattle.schedule.specs.WordLayout.{meant}
 use Rattle.clock.specs.Answers.{instant}
@@ -29,8 +30,8 @@ pub returns-in-Err : goal.returns-in-Err
 returns-in-Err c =
     let words = c.args.words.now in
     let tais = c.args.tais.now in
-    let none = no_list words (well_formed (meant words)) (number_of c.in-Err.refusal) not_well_formed c.in-Err.ensures in
+    let none = no_list words (well_formed (meant words)) _ not_well_formed c.in-Err.ensures in
     hands_utcs (rw (length-map tais (tai_to_utc (meant words))) (omega (arith, c.min-n.ensures, c.min-2.ensures, c.min.ensures)))
     (c.fill_utc-in-Err.ensures (map (tai_to_utc (meant words)) tais)
     (refuses_utc tais (omega (arith, c.min-n.ensures, c.min-2.ensures, c.min.ensures)) (meant words) none.0
-    (λ i r h q. let e : r ≡ Err c.in-Err.refusal = search rules in ap (answer_by instant) e ∙ ap (λ n. refused n) none.1)))
+    (λ i r h q. let e : r ≡ Err NotWellFormed = search rules in ap (λ x. answer_by instant x) e)))

@@ -1,20 +1,11 @@
 -- `many::fill::fill_utc` meets its contract. Assumes nothing.
-use Rattle.std.proofs.Common.{Result, Ok, Err, ◌≡◌, refl, ap, ◌∙◌}
-use Rattle.std.specs.Result.{result_unwrap_or}
-use Rattle.refusals.specs.declared.Refusal.{Refusal}
-use Rattle.refusals.specs.Answer.{number, or_zero, answer_of, answer_by}
-use Rattle.clock.specs.declared.UtcInstant.{UtcInstant}
+use Rattle.std.proofs.Common.{sym, ap, ◌∙◌}
+use Rattle.refusals.specs.Answer.{number, answer_by}
 use Rattle.clock.specs.Answers.{instant}
+use Rattle.many.specs.Many.{day_or_zero, micros_or_zero}
 use Rattle.many.proofs.Answering.{filled_none, filled_one}
+use Rattle.many.proofs.fill.fill_utc.Goals.{in-Ok, in-Err}
 use Rattle.many.proofs.fill.fill_utc.Goals as goal
-
-same_number : (r : Result UtcInstant Refusal) → number (answer_of r) ≡ number (answer_by instant r)
-same_number (Ok v) = refl
-same_number (Err e) = refl
-
-unwrapped : (zero : UtcInstant) (r : Result UtcInstant Refusal) → instant (result_unwrap_or r zero) ≡ or_zero (instant zero) (answer_by instant r)
-unwrapped zero (Ok v) = refl
-unwrapped zero (Err e) = refl
 
 pub loop-i-init : goal.loop-i-init
 loop-i-init g c = (filled_none, filled_none, filled_none)
@@ -24,9 +15,14 @@ loop-i-preserved g c =
     let p = c.loop-i.invariant in
     let h = c.loop-i-test.true in
     let room = c.requires.room in
-    let r = c.ask-answer in
-    let utc = ap instant c.unwrap_or-utc.ensures ∙ unwrapped (record { day = 0; micros = record { 0 = 0 } }) r.result in (
-      filled_one p.0 h room.0 r.result r.ensures _ (c.number_of.ensures ∙ same_number r.result),
-      filled_one p.1 h room.1 r.result r.ensures _ (ap (λ u. u.day) utc),
-      filled_one p.2 h room.2 r.result r.ensures _ (ap (λ u. u.micros) utc),
-    )
+    let q = c.ask.ensures in
+    elim c.match-ask.branch [
+      | in-Ok w ↦
+          let e = ap (λ r. answer_by instant r) (sym w.in-Ok.is) in
+          rw (w.numbers-is, w.days-is, w.micros-is)
+          (filled_one p.0 h room.0 _ q _ (ap number e), filled_one p.1 h room.1 _ q _ (ap day_or_zero e), filled_one p.2 h room.2 _ q _ (ap micros_or_zero e))
+      | in-Err w ↦
+          let e = ap (λ r. answer_by instant r) (sym w.in-Err.is) in
+          rw (w.numbers-is, w.days-is, w.micros-is)
+          (filled_one p.0 h room.0 _ q _ (w.number.ensures ∙ ap number e), filled_one p.1 h room.1 _ q _ (ap day_or_zero e), filled_one p.2 h room.2 _ q _ (ap micros_or_zero e))
+    ]
