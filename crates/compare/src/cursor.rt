@@ -10,7 +10,7 @@ pub(crate) const PAST_MONTHS: u32 = schedule::LAST_MONTH + 1;
 
 // The next leap of a list, those after it, and the last month that the list knows of, which is the last one that starts before its expiry.
 #[derive(Clone, Copy)]
-pub struct Cursor<'a> {
+pub(crate) struct Cursor<'a> {
     next: Option<Leap>,
     rest: Leaps<'a>,
     known: u32,

@@ -9,7 +9,7 @@ use schedule::List;
 
 // Two lists, of which each is compared with the other.
 #[derive(Clone, Copy)]
-pub struct TwoLists<'a> {
+pub(crate) struct TwoLists<'a> {
     pub first: List<'a>,
     pub second: List<'a>,
 }

@@ -11,8 +11,10 @@ use lib.Dec.{eqb, ltb}
 use lib.IntN.{ℤ, pos, ◌+ℤ◌, ◌-ℤ◌, ◌*ℤ◌}
 use lib.ListN.{length, get_or, drop, replicate}
 use borrow.Author.Tests.{le-leb, lt-leb}
-use Rattle.refusals.specs.Refusals.{ends_early, not_allowed, bad_gap, past_last_month, too_many_leaps, after_end, output_short, before1972, no_instant, not_known, not_well_formed, no_gap}
-use Rattle.refusals.specs.Answer.{Answer, given, refused, number}
+use Rattle.refusals.specs.declared.Refusal.{Refusal}
+use Rattle.refusals.proofs.Numbers as refusals
+use Rattle.refusals.specs.Refusals.{number_of, ends_early, not_allowed, bad_gap, past_last_month, too_many_leaps, after_end, output_short, before1972, no_instant, not_known, not_well_formed, no_gap}
+use Rattle.refusals.specs.Answer.{Answer, given, refused, number, or_zero}
 use Rattle.calendar.specs.Calendar.{is_leap_year, month_lengths, days_in_month, month_start, month_of, starts_month}
 use Rattle.calendar.proofs.Laws as calendar
 use Rattle.calendar.proofs.Gregorian as gregorian
@@ -21,7 +23,7 @@ use Rattle.schedule.specs.declared.Leap.{Leap}
 use Rattle.schedule.specs.Schedule.{Schedule, blank_schedule, last_leap, rounded_down, leaves_gap, well_formed}
 use Rattle.schedule.specs.Rules.{WellFormed, Words, ExtendsBy}
 use Rattle.schedule.specs.WordLayout.{leap_words, words_of, meant}
-use Rattle.schedule.specs.Answers.{Reading, HandsReading, fitting, fitted, writing, written}
+use Rattle.schedule.specs.Answers.{Reading, HandsReading, fitted, writing, written}
 use Rattle.schedule.specs.Extends.{Extends}
 use Rattle.schedule.proofs.Gaps as gaps
 use Rattle.schedule.proofs.InWords as schedule
@@ -270,6 +272,10 @@ pub the_numbers : ends_early ∷ not_allowed ∷ bad_gap ∷ past_last_month ∷
     ≡ 1 ∷ 2 ∷ 3 ∷ 4 ∷ 5 ∷ 6 ∷ 7 ∷ 8 ∷ 9 ∷ 10 ∷ 11 ∷ 17 ∷ []
 the_numbers = refl
 
+-- and a refusal is no other than the one with its number
+pub refusal_by_number : (r s : Refusal) → number_of r ≡ number_of s → r ≡ s
+refusal_by_number r s e = refusals.one_number r s e
+
 -- a refused reader returns the blank schedule
 pub text_blank : (bytes : List ℕ) → (read_text bytes).number ≢ 0 → (read_text bytes).schedule ≡ blank_schedule
 text_blank bytes h = text_sound.refused_blank bytes h
@@ -280,23 +286,23 @@ nybbles_blank bytes h = nybble_sound.refused_blank bytes h
 -- writers refuse with 11, then with 17 exactly where the expiry lies in the last leap's month (in month 0 if there is none), then with 7 where the output
 -- is shorter than the list; refusing, they return the number and 0 bytes and change nothing
 module _ (s : Schedule) (bytes out : List ℕ) where
-  pub writer_11 : well_formed s ≡ false → (writing s bytes (length out) ≡ record { number = 11; count = 0 }) × (written s bytes out ≡ out)
-  unfolding writing written
-  writer_11 e = (rw e, rw e)
+  pub writer_11 : well_formed s ≡ false → (writing s bytes (length out) ≡ refused 11) × (or_zero 0 (writing s bytes (length out)) ≡ 0) × (written s bytes out ≡ out)
+  unfolding written
+  writer_11 e = (rw e, rw e, rw e)
 
-  pub writer_17 : well_formed s ≡ true → leaves_gap s ≡ false → (writing s bytes (length out) ≡ record { number = 17; count = 0 }) × (written s bytes out ≡ out)
-  unfolding writing written
-  writer_17 w g = (rw (w, g), rw (w, g))
+  pub writer_17 : well_formed s ≡ true → leaves_gap s ≡ false → (writing s bytes (length out) ≡ refused 17) × (or_zero 0 (writing s bytes (length out)) ≡ 0) × (written s bytes out ≡ out)
+  unfolding written
+  writer_17 w g = (rw (w, g), rw (w, g), rw (w, g))
 
   pub writer_7 : well_formed s ≡ true → leaves_gap s ≡ true → length out < length bytes
-      → (writing s bytes (length out) ≡ record { number = 7; count = 0 }) × (written s bytes out ≡ out)
-  unfolding writing written fitting fitted
-  writer_7 w g h = let short = lt-leb (length bytes) (length out) h in (rw (w, g, short), rw (w, g, short))
+      → (writing s bytes (length out) ≡ refused 7) × (or_zero 0 (writing s bytes (length out)) ≡ 0) × (written s bytes out ≡ out)
+  unfolding written fitted
+  writer_7 w g h = let short = lt-leb (length bytes) (length out) h in (rw (w, g, short), rw (w, g, short), rw (w, g, short))
 
   -- accepting, they return number 0 and the byte count, and bytes beyond it keep what they held
   pub writer_0 : well_formed s ≡ true → leaves_gap s ≡ true → length bytes ≤ length out
-      → (writing s bytes (length out) ≡ record { number = 0; count = length bytes }) × (written s bytes out ≡ bytes ++ drop (length bytes) out)
-  unfolding writing written fitting fitted
+      → (writing s bytes (length out) ≡ given (length bytes)) × (written s bytes out ≡ bytes ++ drop (length bytes) out)
+  unfolding written fitted
   writer_0 w g h = let room = le-leb (length bytes) (length out) h in (rw (w, g, room), rw (w, g, room))
 
 pub no_gap_left : (s : Schedule) → well_formed s ≡ true → (leaves_gap s ≡ false) ↔ (month_of s.expiry ≡ last_leap 0 s.leaps)
@@ -390,7 +396,7 @@ blank_words = refl
 
 -- a writer hands over its number, its count of bytes and the output as it leaves it
 pub writing_handed : (s : Schedule) (list before : List ℕ) (n count : ℕ) (after : List ℕ) → HandsWriting s list before n count after
-    → (n ≡ (writing s list (length before)).number) × (count ≡ (writing s list (length before)).count) × (after ≡ written s list before)
+    → (n ≡ number (writing s list (length before))) × (count ≡ or_zero 0 (writing s list (length before))) × (after ≡ written s list before)
 writing_handed s list before n count after h = (h.its_number, h.its_count, h.its_bytes)
 
 -- ---- Demand 2: every schedule within the limits reads back as itself, and smoothed time strictly rises

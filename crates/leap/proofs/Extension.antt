@@ -1,7 +1,7 @@
 -- What is handed over of whether a list extends another, and what a caller may rest on it.
 -- Assumes nothing.
 use mathlib.Core.Path.{◌≡◌, refl, sym, ap, ◌∙◌}
-use mathlib.Core.Bool.{Bool, true, false, ◌&&◌, and-eq-true_iff}
+use mathlib.Core.Bool.{true, false}
 use mathlib.Core.Logic.{◌↔◌}
 use Prim.Native.Nat.{ℕ}
 use native.Mathlib.Omega.{arith}
@@ -25,14 +25,6 @@ module _ (longer shorter : Schedule) where
     shorter_wrong f = rw (w, f) (record { its_number = refl; its_value = refl })
 
     module _ (w' : well_formed shorter ≡ true) where
-      tested : (v : ℕ) → v ≡ yes_of (extends longer shorter) → HandsValue 0 (extension longer shorter) 0 v
-      unfolding extension
-      tested v e = rw (w, w') (record { its_number = refl; its_value = e })
-
-      -- the test of words, where they are lists, is that of what they mean
-      pub found_not : {b : Bool} → b ≡ (well_formed longer && well_formed shorter && extends longer shorter) → b ≡ false → HandsValue 0 (extension longer shorter) 0 0
-      found_not {b} e f = let x : b ≡ extends longer shorter = simp (w, w') at e in tested 0 (sym (ap yes_of (sym x ∙ f)))
-
       yes : extension longer shorter ≡ given (yes_of (extends longer shorter))
       unfolding extension
       yes = rw (w, w')
@@ -52,10 +44,3 @@ module _ (longer shorter : Schedule) where
         λ e x. let z : ◌≡◌ {A = ℕ} 1 0 = sym (ap yes_of (tests x)) ∙ given_is (sym yes ∙ e) in omega arith,
         λ n. yes ∙ rw (fails n),
       )
-
--- where the test of words passes, both are lists
-pub found_so : (longer shorter : Schedule) {b : Bool} → b ≡ (well_formed longer && well_formed shorter && extends longer shorter) → b ≡ true → HandsValue 0 (extension longer shorter) 0 1
-found_so longer shorter e t =
-    let all = (and-eq-true_iff (well_formed longer && well_formed shorter) (extends longer shorter)).0 (sym e ∙ t) in
-    let both = (and-eq-true_iff (well_formed longer) (well_formed shorter)).0 all.0 in
-    tested longer shorter both.0 both.1 1 (sym (ap yes_of all.1))

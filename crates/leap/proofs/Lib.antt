@@ -1,5 +1,4 @@
--- What writers, the question of extension and replaying hand over, that the two formats agree, and what a contradiction means.
-pub mod Handed
+-- What the question of extension and replaying hand over, that the two formats agree, and what a contradiction means.
 pub mod Formats
 pub mod Extension
 pub mod Contradiction

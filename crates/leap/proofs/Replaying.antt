@@ -1,17 +1,22 @@
 -- What leap_replay hands over, by the room of the output. Assumes nothing.
 use Prim.Native.Nat.{ℕ, ◌≤◌, ◌<◌}
-use mathlib.Core.Path.{◌≡◌, sym, ap, ◌∙◌}
-use mathlib.Core.List.{List, ◌∷◌}
+use mathlib.Core.Path.{◌≡◌, ap, ◌∙◌}
+use mathlib.Core.List.{List, [], ◌∷◌}
+use Rattle.std.proofs.Common.{rules}
 use native.Mathlib.Omega.{arith}
 use lib.ListN.{length}
 use borrow.Author.Tests.{lt-ltb, le-ltb}
-use Rattle.ascii.proofs.Putting.{nothing, from_start_lem}
+use Rattle.ascii.specs.Output.{filled}
 use Rattle.stream.specs.Lines.{lines_of, size_of}
 use Rattle.stream.specs.Stream.{printed, after, answered}
 use Rattle.stream.proofs.Streams.{one_more}
 use Rattle.replay.specs.Replay.{State, replaying}
 use Rattle.replay.proofs.Runs.{no_room}
 use Rattle.leap.specs.Calls.{HandsReplay}
+
+nothing_filled : (out : List ℕ) → filled [] out ≡ out
+unfolding filled
+nothing_filled out = search rules
 
 module _ {s s' : State} {trace before after' : List ℕ} {n used written : ℕ} (h : HandsReplay s trace before n s' after' used written) where
   -- with room for less than 22 bytes a call returns 7, and nothing is used, nothing written and no word of the state changed
@@ -20,7 +25,7 @@ module _ {s s' : State} {trace before after' : List ℕ} {n used written : ℕ} 
   short_room g =
       let none = no_room (length before) s (lines_of trace) g in
       let l = rw none at h.its_lines in
-      (h.its_number ∙ rw (lt-ltb (length before) 22 g), l.used, l.written, l.holds ∙ sym (from_start_lem (nothing before 0)).1, l.state)
+      (h.its_number ∙ rw (lt-ltb (length before) 22 g), l.used, l.written, l.holds ∙ nothing_filled before, l.state)
 
   -- with 22 bytes or more it returns 0
   pub enough_room : 22 ≤ length before → n ≡ 0

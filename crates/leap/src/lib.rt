@@ -107,7 +107,8 @@ pub fn leap_longer_text<'a>(first: &'a [u8], second: &'a [u8], part: &mut &'a [u
 }
 
 // 1 where the first list extends the second, else 0; 11 unless both are lists.
-fn extension(longer: &[u32; 514], shorter: &[u32; 514]) -> Result<u8, Refusal>
+#[tactic(auto, unfolding(crate::specs::Calls::extension))]
+fn extends_as_byte(longer: &[u32; 514], shorter: &[u32; 514]) -> Result<u8, Refusal>
     ensures { answer_of result ≡ extension (meant longer.now) (meant shorter.now) }
 {
     let longer = List::of(longer)?;
@@ -119,7 +120,7 @@ fn extension(longer: &[u32; 514], shorter: &[u32; 514]) -> Result<u8, Refusal>
 pub fn leap_extends(longer: &[u32; 514], shorter: &[u32; 514], yes: &mut u8) -> u8
     ensures { HandsValue 0 (extension (meant longer.now) (meant shorter.now)) result yes.new }
 {
-    hand(extension(longer, shorter), 0, yes)
+    hand(extends_as_byte(longer, shorter), 0, yes)
 }
 
 // DTAI for a date.

@@ -11,7 +11,7 @@ use lib.Seq.{set_at, take-suc, drop-cons, append_snoc, get_or-append-add, get_or
 use Rattle.refusals.specs.Answer.{Answer, number, or_zero}
 use Rattle.clock.specs.Question.{Utc}
 use Rattle.many.specs.Many.{overwrite, HandsMany, HandsManyUtc, day_or_zero, micros_or_zero}
-use Rattle.many.specs.Private.{Overwritten}
+use Rattle.many.specs.Private.{At, Overwritten}
 
 -- ---- one element after the other
 module _ {A : Type 0} where
@@ -30,10 +30,6 @@ module _ {A : Type 0} where
       record { is = ap (λ xs. set xs i v) p.is ∙ next new old i e h v; size = length-set array i v ∙ p.size }
 
 -- ---- which element stands at a place of the answers
-pub record At {A : Type 0} (xs : List A) (i : ℕ) (x : A) : Type 0 where
-  pub below : i < length xs
-  pub is : take (i + 1) xs ≡ take i xs ++ (x ∷ [])
-
 module _ {A : Type 0} where
   at : (xs : List A) (i : ℕ) (d x : A) → i < length xs → get_or xs i d ≡ x → At xs i x
   at xs i d x h e = record { below = h; is = rw (add-one i, sym e) (take-suc xs i d h) }

@@ -4,12 +4,15 @@ use mathlib.Core.Bool.{true}
 use mathlib.Core.List.{List}
 use mathlib.Core.Logic.{⊎_elim}
 use mathlib.Core.Path.{◌≡◌, refl, sym, ap, ◌∙◌}
-use Prim.Native.Nat.{ℕ, ◌+◌, ◌-◌, ◌*◌, ◌≤◌, ◌<◌, min}
+use Prim.Native.Nat.{ℕ, ◌+◌, ◌-◌, ◌*◌, ◌≤◌, ◌<◌}
 use native.Mathlib.Decide.{dec_lt}
 use native.Mathlib.Nat.{eq-or-lt_of_le}
 use native.Mathlib.Omega.{arith}
+use borrow.Rule.Slice.PartMut.{put_mid, mid_of}
+use Rattle.std.proofs.Common.{rules}
+use Rattle.std.proofs.lemmas.List.{places}
 use lib.Dec.{eqb}
-use lib.ListN.{length, get_or, take, set, replicate, length-set, length-replicate, get_or-replicate, length-take}
+use lib.ListN.{length, get_or, take, set, replicate, length-set, length-replicate, get_or-replicate, drop, length-take, length-drop}
 use lib.Seq.{set_out, get_or-set_same, get_or-set_other}
 use borrow.Author.Tests.{eqb-true, eqb-false}
 use Rattle.calendar.specs.Calendar.{end_day, month_start}
@@ -17,12 +20,13 @@ use Rattle.schedule.specs.declared.Sign.TheVariants.{Positive, Negative}
 use Rattle.schedule.specs.declared.Sign.{Sign}
 use Rattle.schedule.specs.declared.Leap.{Leap}
 use Rattle.schedule.specs.Schedule.{Schedule, no_leap, well_formed}
-use Rattle.schedule.specs.WordLayout.{expiry_word, word_of_sign, meant}
+use Rattle.schedule.specs.WordLayout.{word_of_sign}
 use Rattle.schedule.proofs.Cases.{by_bool}
-use Rattle.schedule.proofs.Meant.{count_is, count_room}
+use Rattle.schedule.proofs.Gaps.{parts}
 use Rattle.questions.specs.Private.{one_of, of_sign}
 use Rattle.questions.proofs.Signs.{of_sign_next, both_signs}
-use Rattle.questions.proofs.LaidOut.{last_meant}
+use Rattle.clock.specs.Known.{last_day}
+use Rattle.clock.proofs.Tai.{last_inside as last_before}
 use Rattle.many.specs.Private.{start_at, up_at, down_at, guess_at, last_of, far, Starts, Tallies, Prepared, Fenced, Guesses, Small, Ready, Stretch, Within, Clear, Empty}
 
 -- ---- arrays that differ at most from one place up to another
@@ -52,14 +56,6 @@ stored P xs i v k old new =
 
 -- ---- the days on which the first i leaps take effect
 
-pub record Emptying (old new : List ℕ) (i : ℕ) : Type 0 where
-  pub within : Within 1 258 old new
-  pub place : i ≤ 257
-  pub nones : (k : ℕ) → k < i → start_at new (k + 1) ≡ far
-
-pub emptying_none : (old : List ℕ) → Emptying old old 0
-emptying_none old = record { within = within_none old; place = omega arith; nones = λ k h. absurd (omega arith) }
-
 -- the elements up to the one that was stored, each at its own place
 last_stored : (P : ℕ → ℕ → Type 0) (place : ℕ → ℕ) (xs : List ℕ) (i v : ℕ) → place i < length xs → ((k : ℕ) → k < i → place k ≡ place i → ⊥)
     → ((k : ℕ) → k < i → P k (get_or xs (place k) 0)) → P i v → (k : ℕ) → k ≤ i → P k (get_or (set xs (place i) v) (place k) 0)
@@ -67,16 +63,33 @@ last_stored P place xs i v l other old new k h =
     ⊎_elim (λ (z : k ≡ i). rw (z, get_or-set_same xs (place i) v 0 l) new)
     (λ (b : k < i). rw (get_or-set_other xs (place i) (place k) v 0 (other k b)) (old k b)) (eq-or-lt_of_le h)
 
-pub emptying_one : {old new : List ℕ} {i : ℕ} → length old ≡ 1669 → Emptying old new i → i < 257 → Emptying old (set new (i + 1) far) (i + 1)
-emptying_one {old} {new} {i} l p h =
-    record {
-      within = within_one p.within (i + 1) far (omega arith) (omega arith);
-      place = omega arith;
-      nones = λ k b. last_stored (λ j x. x ≡ far) (λ j. j + 1) new i far (omega (arith, l, p.within.size)) (λ j b e. omega arith) p.nones refl k (omega arith);
-    }
+-- elements put into an array from place `a` on
+module _ (a n : ℕ) (xs ys : List ℕ) (l : length ys ≡ n) (r : a + n ≤ length xs) where
+  put_size : length (put_mid a n xs ys) ≡ length xs
+  put_size = search (rules, places)
 
-pub emptying_all : {old new : List ℕ} {i : ℕ} → Emptying old new i → 257 ≤ i → Within 1 258 old new × Empty new
-emptying_all p h = (p.within, record { none = λ k r. p.nones k (omega arith) })
+  put_below : (k : ℕ) → k < a → get_or (put_mid a n xs ys) k 0 ≡ get_or xs k 0
+  put_below k h = search (rules, places)
+
+  put_beyond : (k : ℕ) → a + n ≤ k → get_or (put_mid a n xs ys) k 0 ≡ get_or xs k 0
+  put_beyond k h = search (rules, places)
+
+  put_at : (k : ℕ) → k < n → get_or (put_mid a n xs ys) (k + a) 0 ≡ get_or ys k 0
+  put_at k h = search (rules, places)
+
+-- `far` put at all places of the leaps
+pub emptied : (xs ys : List ℕ) → length xs ≡ 1669 → ys ≡ replicate (length (mid_of 1 257 xs)) far → Within 1 258 xs (put_mid 1 257 xs ys) × Empty (put_mid 1 257 xs ys)
+emptied xs ys l e =
+    let part : length (mid_of 1 257 xs) ≡ 257 = omega (arith, length-take 257 (drop 1 xs), length-drop 1 xs) in
+    let long : length ys ≡ 257 = rw e (length-replicate {A = ℕ} (length (mid_of 1 257 xs)) far ∙ part) in
+    let room : 1 + 257 ≤ length xs = omega arith in (
+      record { size = put_size 1 257 xs ys long room; below = put_below 1 257 xs ys long room; beyond = put_beyond 1 257 xs ys long room },
+      record {
+        none = λ i h.
+            put_at 1 257 xs ys long room i (omega arith)
+            ∙ (ap (λ zs. get_or zs i 0) e ∙ get_or-replicate {A = ℕ} (length (mid_of 1 257 xs)) i far 0 (omega (arith, part)));
+      },
+    )
 
 pub record Starting (s : Schedule) (old new : List ℕ) (i : ℕ) : Type 0 where
   pub within : Within 1 258 old new
@@ -219,7 +232,7 @@ tallies_below room p f q =
 small_below : {from to : ℕ} {old new : List ℕ} → Within from to old new → 774 ≤ from → Small old → Small new
 small_below p f q = record { tallies = λ k a b. rw (p.below k (omega arith)) (q.tallies k a b) }
 
-module _ (words : List ℕ) (w : well_formed (meant words) ≡ true) {expiry last : ℕ} (x : expiry ≡ expiry_word words) (l : last ≡ min (expiry - 1) (end_day - 1))
+module _ (s : Schedule) (w : well_formed s ≡ true) {last : ℕ} (l : last ≡ last_day s)
     (blank : List ℕ) (size : length blank ≡ 1669) (zeros : Clear 0 1669 blank) where
   abbrev dated : List ℕ
   dated = set blank 1668 last
@@ -233,7 +246,7 @@ module _ (words : List ℕ) (w : well_formed (meant words) ≡ true) {expiry las
   part_clear : (a b : ℕ) → b ≤ 1668 → Clear a b dated
   part_clear a b h = record { zero_at = λ k f t. dated_clear.zero_at k (omega arith) (omega arith) }
 
-  module _ {a b : List ℕ} (f : Within 1 258 dated a × Empty a) (g : Within 1 258 a b × Starts (meant words) b) where
+  module _ {a b : List ℕ} (f : Within 1 258 dated a × Empty a) (g : Within 1 258 a b × Starts s b) where
     pub far_size : length a ≡ 1669
     far_size = f.0.size ∙ dated_size
 
@@ -246,8 +259,8 @@ module _ (words : List ℕ) (w : well_formed (meant words) ≡ true) {expiry las
     pub tallies_clear : Clear 258 774 b
     tallies_clear = starts_clear 258 774 (omega arith) (omega arith)
 
-    room : length (meant words).leaps ≤ 256
-    room = omega (arith, count_is words w, count_room words w)
+    room : length s.leaps ≤ 256
+    room = (parts s w).room
 
     starts_fenced : Fenced b
     starts_fenced =
@@ -256,7 +269,7 @@ module _ (words : List ℕ) (w : well_formed (meant words) ≡ true) {expiry las
           end = g.1.beyond 256 room (omega arith);
         }
 
-    module _ {c : List ℕ} (h : Within 258 774 b c × Tallies (meant words) c × Small c) where
+    module _ {c : List ℕ} (h : Within 258 774 b c × Tallies s c × Small c) where
       pub tallies_size : length c ≡ 1669
       tallies_size = h.0.size ∙ starts_size
 
@@ -269,23 +282,23 @@ module _ (words : List ℕ) (w : well_formed (meant words) ≡ true) {expiry las
           ∙ (g.0.beyond 1668 (omega arith) ∙ (f.0.beyond 1668 (omega arith) ∙ get_or-set_same blank 1668 last 0 (omega (arith, size))))
 
       pub last_inside : last_of c < end_day
-      last_inside = omega (arith, last_kept)
+      last_inside = omega (arith, last_kept, l, last_before s w)
 
       pub guesses_clear : Clear 774 1668 c
       guesses_clear = clear_beyond h.0 774 1668 (omega arith) (starts_clear 774 1668 (omega arith) (omega arith))
 
-      pub list_prepared : {d : List ℕ} → Within 774 1668 c d × Guesses d → Ready d × Prepared (meant words) d
+      pub list_prepared : {d : List ℕ} → Within 774 1668 c d × Guesses d → Ready d × Prepared s d
       list_prepared {d} k =
           let last-is : last_of d ≡ last = k.0.beyond 1668 (omega arith) ∙ last_kept in (
             record {
               fenced = fenced_below k.0 (omega arith) tallies_fenced;
               guessed = k.1;
-              inside = omega (arith, last-is);
+              inside = omega (arith, last-is, l, last_before s w);
               small = small_below k.0 (omega arith) h.2;
             },
             record {
               well = w;
-              is_last = last-is ∙ last_meant words w x l;
+              is_last = last-is ∙ l;
               starting = starts_below room k.0 (omega arith) (starts_below room h.0 (omega arith) g.1);
               tallied = tallies_below room k.0 (omega arith) h.1;
             },

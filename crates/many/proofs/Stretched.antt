@@ -110,15 +110,15 @@ module _ {s : Schedule} {prepared : List ℕ} (p : Prepared s prepared) {day n :
   inserted_in e l = sym (ends_with e ∙ not_lowered sign (down_at prepared n) (down_at prepared (n + 1)) (fallen e) l)
 
   -- and what the list says of the day
-  pub day_in_stretch : (k : Day) → k.well ≡ true → k.up ≡ up_at prepared n → k.down ≡ down_at prepared n → k.ending ≡ ending s day → k.last ≡ last_of prepared → DayFor s day k
-  day_in_stretch k ew eu ed ee el =
+  pub day_in_stretch : (k : Day) → k.up ≡ up_at prepared n → k.down ≡ down_at prepared n → k.ending ≡ ending s day → k.last ≡ last_of prepared → DayFor s day k
+  day_in_stretch k eu ed ee el =
       let here = placed s p.well prepared p.starting day n d q in
       let room : n ≤ length s.leaps = omega (arith, here.room) in
       let up : k.up ≡ of_sign Positive (take n s.leaps) = eu ∙ p.tallied.ups n room in
       let down : k.down ≡ of_sign Negative (take n s.leaps) = ed ∙ p.tallied.downs n room in
       record {
-        list = record { is_well = ew ∙ sym p.well; is_last = λ w. el ∙ p.is_last };
-        is = λ w a b. record { offset = ap₂ (λ (u d : ℕ). sub_ℕ (first_dtai + u) d) up down ∙ sym (dtai_placed s p.well here); ends = ee };
+        list = record { well = p.well; is_last = el ∙ p.is_last };
+        is = λ a b. record { offset = ap₂ (λ (u d : ℕ). sub_ℕ (first_dtai + u) d) up down ∙ sym (dtai_placed s p.well here); ends = ee };
       }
 
 -- a day up to the last one is asked about as it is
@@ -126,12 +126,12 @@ pub day_for_near : {s : Schedule} {last day : ℕ} {k : Day} → last ≡ last_d
 day_for_near {s} {last = last} {day} f g =
     record {
       list = g.list;
-      is = λ w p q. let e : min day last ≡ day = omega (arith, f) in rw e at (g.is w (omega arith) (omega arith));
+      is = λ p q. let e : min day last ≡ day = omega (arith, f) in rw e at (g.is (omega arith) (omega arith));
     }
 
 -- a prepared list as one whose last day is known
-pub list_in_lem : {s : Schedule} {prepared : List ℕ} → Prepared s prepared → ListFor s true (last_of prepared)
-list_in_lem p = record { is_well = sym p.well; is_last = λ w. p.is_last }
+pub list_in_lem : {s : Schedule} {prepared : List ℕ} → Prepared s prepared → ListFor s (last_of prepared)
+list_in_lem p = record { well = p.well; is_last = p.is_last }
 
 -- ---- while it is looked for
 

@@ -1,16 +1,12 @@
 -- What only private functions are held to: a list prepared for many questions, and an array overwritten. No public contract and no
 -- promise speaks of these.
 -- Assumes nothing: these are definitions.
-use Rattle.std.specs.Prelude.{true, List, ◌≡◌, ℕ, ◌+◌, ◌*◌, ◌≤◌, ◌<◌, min, length, get_or, take}
+use Rattle.std.specs.Prelude.{true, List, [], ◌∷◌, ◌++◌, ◌≡◌, ℕ, ◌+◌, ◌*◌, ◌≤◌, ◌<◌, length, get_or, take}
 use Rattle.calendar.specs.Calendar.{end_day, month_start}
 use Rattle.schedule.specs.declared.Sign.TheVariants.{Positive, Negative}
 use Rattle.schedule.specs.Schedule.{Schedule, no_leap, well_formed}
 use Rattle.clock.specs.Known.{last_day}
 use Rattle.questions.specs.Private.{of_sign}
-use Rattle.refusals.specs.Answer.{Answer}
-use Rattle.clock.specs.Question.{utc_to_tai, utc_to_uts, uts_to_utc}
-use Rattle.many.specs.declared.replies.Asked.{Asked}
-use Rattle.many.specs.declared.replies.Asked.TheVariants.{Tai, Uts, Micros}
 use Rattle.many.specs.Many.{overwrite}
 
 -- ---- a list prepared, in 1,669 words
@@ -98,19 +94,14 @@ pub record Empty (prepared : List ℕ) : Type 0 where
 
 -- ---- questions and arrays filled
 
--- the shortest of four lengths, which is none above any of them
-pub record Shortest (a b c d r : ℕ) : Type 0 where
-  pub is : r ≡ min (min a b) (min c d)
-  pub first : r ≤ a
-  pub second : r ≤ b
-  pub third : r ≤ c
-  pub fourth : r ≤ d
+-- x stands at place i
+pub record At {A : Type 0} (xs : List A) (i : ℕ) (x : A) : Type 0 where
+  pub below : i < length xs
+  pub is : take (i + 1) xs ≡ take i xs ++ (x ∷ [])
 
--- the question that is asked
-abbrev pub question : Asked → Schedule → ℕ → ℕ → Answer ℕ
-question Tai = utc_to_tai
-question Uts = utc_to_uts
-question Micros = uts_to_utc
+-- whatever a call at one of the first places may return says what stands there
+pub record Asks {A R : Type 0} (n : ℕ) (returns : ℕ → R → Type 0) (says : R → A) (answers : List A) : Type 0 where
+  pub each : (i : ℕ) (r : R) → i < n → returns i r → At answers i (says r)
 
 -- an array after its first elements were overwritten: it is as long as before
 pub record Overwritten {A : Type 0} (new old array : List A) : Type 0 where

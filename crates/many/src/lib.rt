@@ -2,71 +2,57 @@
 #![tactic(auto)]
 
 ghost use mathlib.Core.List.{map, zip_with};
-ghost use Rattle.std.specs.Prelude.{◌≡◌, min, pos};
+ghost use Rattle.std.specs.Prelude.{◌≡◌, ℕ, ◌<◌, ◌≤◌, length, pos};
 ghost use Rattle.schedule.specs.WordLayout.{meant};
 ghost use Rattle.clock.specs.Question.{dtai_on, utc_to_tai, tai_to_utc, utc_to_uts, uts_to_utc};
 ghost use Rattle.many.specs.Many.{HandsMany, HandsManyUtc};
-ghost use Rattle.many.specs.Private.{Shortest, question};
+ghost use Rattle.many.specs.Asked.{AnswersEach};
+ghost use Rattle.many.specs.declared.prepared.PreparedList.{PreparedList};
 
-mod loops; // loops.rt: arrays filled
-mod replies; // replies.rt: what an instant is replied
+mod fill; // fill.rt: arrays filled
+mod prepared; // prepared.rt: a prepared list, and what it answers
 mod stretches; // stretches.rt: the list prepared
 
-use crate::loops::{fill, fill_dtai, fill_utc, refuse, refuse_dtai, refuse_utc};
-use crate::replies::Asked;
+use crate::fill::{fill, fill_utc};
+use crate::prepared::PreparedList;
 use crate::stretches::prepare;
+use refusals::Refusal;
+use schedule::List;
 
-fn shorter(a: usize, b: usize) -> usize
-    ensures { result ≡ min a b }
+// The first n questions, each answered by its place: under a list by the list prepared, and with 11 under words that are no list.
+fn answer_each<T: Copy, F: Fn(PreparedList<'_>, usize) -> Result<T, Refusal>>(
+    words: &[u32; 514],
+    n: usize,
+    ask: F,
+    numbers: &mut [u8],
+    values: &mut [T],
+    zero: T,
+) -> u64
+    requires room { (n ≤ length numbers.old) × (n ≤ length values.old) }
+    requires callable { (list : PreparedList) (i : ℕ) → i < n → F.pre ask list i }
+    ensures { AnswersEach n (F.post ask) zero words.now numbers.old values.old result numbers.new values.new }
 {
-    if a < b {
-        return a;
+    match List::of(words) {
+        Ok(list) => {
+            let mut room = [0u32; 1669];
+            prepare(list, &mut room);
+            let prepared = PreparedList::new(list, &room);
+            let answer = |i|
+                requires { F.pre ask prepared i }
+            { ask(prepared, i) };
+            fill(n, answer, numbers, values, zero);
+        }
+        Err(refusal) => fill(n, |_i| Err(refusal), numbers, values, zero),
     }
-    b
-}
-
-// The shortest of four lengths.
-fn shortest(a: usize, b: usize, c: usize, d: usize) -> usize
-    ensures { Shortest a b c d result }
-{
-    shorter(shorter(a, b), shorter(c, d))
+    n as u64
 }
 
 // DTAI for each date.
 pub fn dtai(words: &[u32; 514], days: &[u64], numbers: &mut [u8], dtais: &mut [i32]) -> u64
     ensures { HandsMany (pos 0) (map (dtai_on (meant words.now)) days.now) numbers.old dtais.old result numbers.new dtais.new }
 {
-    let n = shorter(days.len(), shorter(numbers.len(), dtais.len()));
-    if !schedule::is_list(words) {
-        refuse_dtai(numbers, dtais, n);
-        return n as u64;
-    }
-    let mut prepared = [0u32; 1669];
-    prepare(words, &mut prepared);
-    fill_dtai(&prepared, days, numbers, dtais, n);
-    n as u64
-}
-
-// One of three questions about each instant.
-fn answer(
-    asked: Asked,
-    words: &[u32; 514],
-    days: &[u64],
-    times: &[u64],
-    numbers: &mut [u8],
-    values: &mut [u64],
-) -> u64
-    ensures { HandsMany 0 (zip_with (question asked (meant words.now)) days.now times.now) numbers.old values.old result numbers.new values.new }
-{
-    let n = shortest(days.len(), times.len(), numbers.len(), values.len());
-    if !schedule::is_list(words) {
-        refuse(numbers, values, n);
-        return n as u64;
-    }
-    let mut prepared = [0u32; 1669];
-    prepare(words, &mut prepared);
-    fill(asked, &prepared, days, times, numbers, values, n);
-    n as u64
+    let n = days.len().min(numbers.len()).min(dtais.len());
+    answer_each(words, n, |list, i| list.dtai(days[i]), numbers, dtais, 0)
 }
 
 // UTC to TAI for each instant.
@@ -79,7 +65,19 @@ pub fn utc_to_tai(
 ) -> u64
     ensures { HandsMany 0 (zip_with (utc_to_tai (meant words.now)) days.now micros.now) numbers.old tais.old result numbers.new tais.new }
 {
-    answer(Asked::Tai, words, days, micros, numbers, tais)
+    let n = days
+        .len()
+        .min(micros.len())
+        .min(numbers.len())
+        .min(tais.len());
+    answer_each(
+        words,
+        n,
+        |list, i| list.tai(days[i], micros[i]),
+        numbers,
+        tais,
+        0,
+    )
 }
 
 // UTC to smoothed time for each instant.
@@ -92,7 +90,19 @@ pub fn utc_to_uts(
 ) -> u64
     ensures { HandsMany 0 (zip_with (utc_to_uts (meant words.now)) days.now micros.now) numbers.old nanos.old result numbers.new nanos.new }
 {
-    answer(Asked::Uts, words, days, micros, numbers, nanos)
+    let n = days
+        .len()
+        .min(micros.len())
+        .min(numbers.len())
+        .min(nanos.len());
+    answer_each(
+        words,
+        n,
+        |list, i| list.uts(days[i], micros[i]),
+        numbers,
+        nanos,
+        0,
+    )
 }
 
 // Smoothed time to UTC for each instant.
@@ -105,7 +115,19 @@ pub fn uts_to_utc(
 ) -> u64
     ensures { HandsMany 0 (zip_with (uts_to_utc (meant words.now)) days.now nanos.now) numbers.old micros.old result numbers.new micros.new }
 {
-    answer(Asked::Micros, words, days, nanos, numbers, micros)
+    let n = days
+        .len()
+        .min(nanos.len())
+        .min(numbers.len())
+        .min(micros.len());
+    answer_each(
+        words,
+        n,
+        |list, i| list.micros(days[i], nanos[i]),
+        numbers,
+        micros,
+        0,
+    )
 }
 
 // TAI to UTC for each TAI.
@@ -118,13 +140,19 @@ pub fn tai_to_utc(
 ) -> u64
     ensures { HandsManyUtc (map (tai_to_utc (meant words.now)) tais.now) numbers.old days.old micros.old result numbers.new days.new micros.new }
 {
-    let n = shortest(tais.len(), numbers.len(), days.len(), micros.len());
-    if !schedule::is_list(words) {
-        refuse_utc(numbers, days, micros, n);
-        return n as u64;
+    let n = tais
+        .len()
+        .min(numbers.len())
+        .min(days.len())
+        .min(micros.len());
+    match List::of(words) {
+        Ok(list) => {
+            let mut room = [0u32; 1669];
+            prepare(list, &mut room);
+            let prepared = PreparedList::new(list, &room);
+            fill_utc(n, |i| prepared.utc(tais[i]), numbers, days, micros);
+        }
+        Err(refusal) => fill_utc(n, |_i| Err(refusal), numbers, days, micros),
     }
-    let mut prepared = [0u32; 1669];
-    prepare(words, &mut prepared);
-    fill_utc(&prepared, tais, numbers, days, micros, n);
     n as u64
 }

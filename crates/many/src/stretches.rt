@@ -1,23 +1,22 @@
 // A well-formed list prepared for many questions, in one array: the days on which its leaps take effect, the leaps of each sign by then, where to
 // start looking, and the last day. From one such day to the next is a stretch, in which DTAI is the same.
-ghost use Rattle.std.specs.Prelude.{◌≡◌, true, ◌+◌, ◌≤◌, ◌<◌, length, get_or};
+ghost use Rattle.std.specs.Prelude.{◌≡◌, ◌+◌, ◌≤◌, ◌<◌, length, get_or};
 ghost use Rattle.calendar.specs.Calendar.{end_day};
-ghost use Rattle.schedule.specs.Schedule.{Schedule, well_formed};
+ghost use Rattle.schedule.specs.Schedule.{Schedule};
 ghost use Rattle.schedule.specs.WordLayout.{meant};
 ghost use Rattle.clock.specs.Days.{ending};
-ghost use Rattle.questions.specs.Said.{DayFor};
 ghost use Rattle.many.specs.Private.{last_of, Within, Clear, Empty, Starts, Fenced, Tallies, Small, Stretch, Guesses, Prepared, Ready};
 
 use clock::Ending;
-use questions::by_day::{Day, day_before, smaller};
-use schedule::{count_of, expiry_of};
+use questions::by_day::last_day;
+use schedule::List;
 
 // The days stand from place 0 on; from these places on the positive and the negative leaps by then, and where to start looking; then the last day.
-const UPS: usize = 258;
+pub(crate) const UPS: usize = 258;
 
-const DOWNS: usize = 516;
+pub(crate) const DOWNS: usize = 516;
 
-const GUESSES: usize = 774;
+pub(crate) const GUESSES: usize = 774;
 
 pub(crate) const LAST: usize = 1668;
 
@@ -25,7 +24,7 @@ pub(crate) const LAST: usize = 1668;
 const FAR: u32 = 4_294_967_295;
 
 // Where to start looking is kept for each span of so many days.
-const SPAN: u32 = 128;
+pub(crate) const SPAN: u32 = 128;
 
 // The first day of 1972 lies in span 322, the last day of the calendar in span 893.
 const FIRST_SPAN: usize = 322;
@@ -35,45 +34,36 @@ fn lay_far(prepared: &mut [u32; 1669])
     requires { length prepared.old ≡ 1669 }
     ensures { Within 1 258 prepared.old prepared.new × Empty prepared.new }
 {
-    let mut i: usize = 0;
-    while i < 257 {
-        prepared[i + 1] = FAR;
-        i += 1;
-    }
+    prepared[1..258].fill(FAR);
 }
 
 // The day on which each leap takes effect, from place 1 on.
-fn lay_starts(words: &[u32; 514], prepared: &mut [u32; 1669])
-    requires { (well_formed (meant words.now) ≡ true) × (length prepared.old ≡ 1669) × Empty prepared.old }
-    ensures { Within 1 258 prepared.old prepared.new × Starts (meant words.now) prepared.new }
+fn lay_starts(list: List<'_>, prepared: &mut [u32; 1669])
+    requires { (length prepared.old ≡ 1669) × Empty prepared.old }
+    ensures { Within 1 258 prepared.old prepared.new × Starts (meant list.entry.words.now) prepared.new }
 {
-    let count = count_of(words);
-    let mut i: usize = 0;
-    while i < count {
-        let month = words[2 * i];
+    for i in 0..list.count() {
+        let month = list.words[2 * i];
         prepared[i + 1] = calendar::first_day(month as u16) as u32;
-        i += 1;
     }
 }
 
 // How many of the first leaps have each sign, for each number of them.
-fn lay_tallies(words: &[u32; 514], prepared: &mut [u32; 1669])
-    requires { (well_formed (meant words.now) ≡ true) × (length prepared.old ≡ 1669) × Clear 258 774 prepared.old }
-    ensures { Within 258 774 prepared.old prepared.new × Tallies (meant words.now) prepared.new × Small prepared.new }
+fn lay_tallies(list: List<'_>, prepared: &mut [u32; 1669])
+    requires { (length prepared.old ≡ 1669) × Clear 258 774 prepared.old }
+    ensures { Within 258 774 prepared.old prepared.new × Tallies (meant list.entry.words.now) prepared.new × Small prepared.new }
 {
-    let count = count_of(words);
     let mut down: u32 = 0;
-    let mut i: usize = 0;
-    while i < count {
-        down += words[2 * i + 1];
-        i += 1;
-        prepared[UPS + i] = i as u32 - down;
-        prepared[DOWNS + i] = down;
+    for i in 0..list.count() {
+        down += list.words[2 * i + 1];
+        let next = i + 1;
+        prepared[UPS + next] = next as u32 - down;
+        prepared[DOWNS + next] = down;
     }
 }
 
 // The place of the stretch that a day lies in, from a place at or before it.
-fn walk(prepared: &[u32; 1669], from: usize, day: u32) -> usize
+pub(crate) fn walk(prepared: &[u32; 1669], from: usize, day: u32) -> usize
     requires { (from ≤ 256) × (get_or prepared.now from 0 ≤ day) × (day < get_or prepared.now 257 0) }
     ensures { Stretch prepared.now day result }
 {
@@ -85,7 +75,7 @@ fn walk(prepared: &[u32; 1669], from: usize, day: u32) -> usize
 }
 
 // A place and, if its stretch is over by the day, the next one: a first step of the walk that is taken with no branch.
-fn step(prepared: &[u32; 1669], at: usize, day: u32) -> usize
+pub(crate) fn step(prepared: &[u32; 1669], at: usize, day: u32) -> usize
     requires { (at ≤ 256) × (get_or prepared.now at 0 ≤ day) × (day < get_or prepared.now 257 0) }
     ensures { (result ≤ 256) × (get_or prepared.now result 0 ≤ day) }
 {
@@ -102,29 +92,27 @@ fn lay_guesses(prepared: &mut [u32; 1669])
 {
     let end = (prepared[LAST] / SPAN) as usize;
     let mut at: usize = 0;
-    let mut i = FIRST_SPAN;
-    while i <= end {
+    for i in FIRST_SPAN..end + 1 {
         at = walk(prepared, at, SPAN * i as u32);
         prepared[GUESSES + i] = at as u32;
-        i += 1;
     }
 }
 
 // A list prepared, in an array that was clear.
-pub(crate) fn prepare(words: &[u32; 514], prepared: &mut [u32; 1669])
-    requires { (well_formed (meant words.now) ≡ true) × (length prepared.old ≡ 1669) × Clear 0 1669 prepared.old }
-    ensures { Ready prepared.new × Prepared (meant words.now) prepared.new }
+pub(crate) fn prepare(list: List<'_>, prepared: &mut [u32; 1669])
+    requires { (length prepared.old ≡ 1669) × Clear 0 1669 prepared.old }
+    ensures { Ready prepared.new × Prepared (meant list.entry.words.now) prepared.new }
 {
-    prepared[LAST] = day_before(expiry_of(words)) as u32;
+    prepared[LAST] = last_day(list) as u32;
     lay_far(prepared);
-    lay_starts(words, prepared);
-    lay_tallies(words, prepared);
+    lay_starts(list, prepared);
+    lay_tallies(list, prepared);
     lay_guesses(prepared);
 }
 
 // How a day of the stretch at a place ends: as usual, if the next stretch does not start on the next day; else by the sign of the leap that
 // starts it, which is negative if it adds to the negative ones.
-fn ending_in(prepared: &[u32; 1669], at: usize, day: u32) -> Ending
+pub(crate) fn ending_in(prepared: &[u32; 1669], at: usize, day: u32) -> Ending
     requires { Stretch prepared.now day at × (day < end_day) }
     ensures { (s : Schedule) → Prepared s prepared.now → result ≡ ending s day }
 {
@@ -136,23 +124,4 @@ fn ending_in(prepared: &[u32; 1669], at: usize, day: u32) -> Ending
         return Ending::Deleted;
     }
     Ending::Inserted
-}
-
-// What a prepared list says of a day. A day after the last one gets what is said of that, and only `last` means something then.
-pub(crate) fn found(prepared: &[u32; 1669], day: u64) -> Day
-    requires { Ready prepared.now }
-    ensures { (s : Schedule) → Prepared s prepared.now → DayFor s day result }
-{
-    let last = prepared[LAST] as u64;
-    let near = smaller(day, last) as u32;
-    let guess = prepared[GUESSES + (near / SPAN) as usize];
-    let at = walk(prepared, step(prepared, guess as usize, near), near);
-    let ending = ending_in(prepared, at, near);
-    Day {
-        well: true,
-        up: prepared[UPS + at] as u16,
-        down: prepared[DOWNS + at] as u16,
-        ending,
-        last,
-    }
 }

@@ -1,5 +1,4 @@
--- The laws behind the five questions, one at a time; `many` cites those of words and of what is said of a day.
-pub mod LaidOut
+-- The laws behind the five questions, one at a time; `many` cites those of what is said of a day.
 pub mod Looked
 pub mod Checked
 pub mod Near

@@ -11,7 +11,9 @@ use calendar::{END_DAY, FIRST_DAY};
 use clock::{Ending, LONG_DAY, SHORT_DAY};
 use refusals::Refusal;
 
-// Whether the last day is fully known: the next day isn't the first of a month.
+// Whether the last day is fully known: the next day isn't the first of a month. It is asked of that day alone, and stands apart, so that what is asked
+// of every day is small enough for the compiler to put it into the loops of many.
+#[inline(never)]
 #[tactic(auto, unfolding(clock::specs::Known::fully_known), using(calendar::proofs::Laws::first_past))]
 fn is_whole(last: u64) -> bool
     ensures { result ≡ fully_known last }
@@ -65,6 +67,8 @@ pub(crate) fn check_instant(
 }
 
 // What an instant of UTC is refused with: at last it must lie within the day's own length. Below the cut-off it is known on every known date.
+// It goes into the loops of many, like `check_date`.
+#[inline(always)]
 pub(crate) fn check_utc(last: u64, w: Ending, cutoff: u64, day: u64, t: u64) -> Result<(), Refusal>
     requires { cutoff ≤ short_day }
     ensures checks { answer_of result ≡ at_utc true last w cutoff day t tt }

@@ -17,6 +17,12 @@ names =
 pub the_numbers : names ≡ 1 ∷ 2 ∷ 3 ∷ 4 ∷ 5 ∷ 6 ∷ 7 ∷ 8 ∷ 9 ∷ 10 ∷ 11 ∷ 16 ∷ 17 ∷ 20 ∷ []
 the_numbers = refl
 
+-- and so has each refusal of the code
+pub their_numbers : number_of EndsEarly ∷ number_of NotAllowed ∷ number_of BadGap ∷ number_of PastLastMonth ∷ number_of TooManyLeaps ∷ number_of AfterEnd ∷ number_of OutputShort ∷ number_of Before1972
+    ∷ number_of NoInstant ∷ number_of NotKnown ∷ number_of NotWellFormed ∷ number_of Contradiction ∷ number_of NoGap ∷ number_of NoLine ∷ []
+    ≡ 1 ∷ 2 ∷ 3 ∷ 4 ∷ 5 ∷ 6 ∷ 7 ∷ 8 ∷ 9 ∷ 10 ∷ 11 ∷ 16 ∷ 17 ∷ 20 ∷ []
+their_numbers = refl
+
 -- the refusal of a number that has one
 abbrev named : ℕ → Refusal
 named n = cond (eqb n 1) EndsEarly (cond (eqb n 2) NotAllowed (cond (eqb n 3) BadGap (cond (eqb n 4) PastLastMonth (cond (eqb n 5) TooManyLeaps (cond (eqb n 6) AfterEnd (cond (eqb n 7) OutputShort (cond (eqb n 8) Before1972 (cond (eqb n 9) NoInstant (cond (eqb n 10) NotKnown (cond (eqb n 11) NotWellFormed (cond (eqb n 16) Contradiction (cond (eqb n 17) NoGap NoLine))))))))))))

@@ -4,7 +4,7 @@
 
 ghost use Rattle.std.specs.Prelude.{◌≡◌, min, ◌&&◌};
 ghost use Rattle.refusals.specs.Refusals.{number_of};
-ghost use Rattle.schedule.specs.Schedule.{last_month, month_start, is_expired, well_formed};
+ghost use Rattle.schedule.specs.Schedule.{last_month, month_start, month_of, is_expired, well_formed};
 ghost use Rattle.schedule.specs.Extends.{extends};
 ghost use Rattle.schedule.specs.WordLayout.{count_word, expiry_word, month_word, sign_word, sign_of, meant, word_of_sign};
 ghost use Rattle.schedule.specs.Answers.{refusal, ReadsInto};
@@ -154,6 +154,13 @@ pub fn expiry_at(month: u32) -> u32
         return END_DAY;
     }
     calendar::first_day(month as u16) as u32
+}
+
+// The month to which the writers round the expiry down.
+pub fn expiry_month(words: &[u32; 514]) -> u32
+    ensures { result ≡ month_of (expiry_word words.now) }
+{
+    u32::from(calendar::latest_month(u64::from(words[513])))
 }
 
 // Whether a month is at or after an expiry. A month past 2400 is taken as month 2400.

@@ -7,7 +7,7 @@ ghost use Rattle.schedule.specs.Extends.{extends};
 ghost use Rattle.schedule.specs.WordLayout.{meant};
 ghost use Rattle.schedule.specs.Answers.{writable};
 
-use crate::{Sign, count_of, expiry_of, is_expired, is_list, month_at, sign_at};
+use crate::{Sign, count_of, expiry_month, expiry_of, is_expired, is_list, month_at, sign_at};
 use refusals::Refusal;
 
 // The words of a well-formed schedule.
@@ -60,7 +60,7 @@ impl<'a> List<'a> {
     pub fn expiry_month(self) -> u32
         ensures { result ≡ expiry_month (meant self.entry.words.now) }
     {
-        u32::from(calendar::latest_month(u64::from(self.words[513])))
+        expiry_month(self.words)
     }
 
     // The month of the last leap, or month 0 where there is none.

@@ -1,44 +1,36 @@
 -- `many::tai_to_utc` meets its contract. Assumes nothing.
-use Rattle.refusals.specs.Refusals.{not_well_formed}
+use mathlib.Core.List.{map}
+use lib.ListN.{length-map}
+use Rattle.std.proofs.Common.{◌≡◌, Err, ap, ◌∙◌, rules, arith}
+use Rattle.refusals.specs.Refusals.{not_well_formed, number_of}
+use Rattle.refusals.specs.Answer.{refused, answer_by}
+use Rattle.schedule.specs.Schedule.{well_formed}
 use Rattle.schedule.specs.WordLayout.{meant}
+use Rattle.clock.specs.Answers.{instant}
 use Rattle.clock.specs.Question.{tai_to_utc}
-use Rattle.refusals.proofs.Checks.{stop}
-use Rattle.many.proofs.Answering.{hands_utcs, refuses_utcs}
-use Rattle.refusals.proofs.Checks.{passed, failed}
 use Rattle.many.proofs.Preparing.{all_clear}
+use Rattle.many.proofs.Answering.{hands_utcs, same_list, no_list, asks_utc, refuses_utc}
 use Rattle.many.proofs.tai_to_utc.Goals as goal
 
-pub refuse_utc-requires : goal.refuse_utc-requires
-refuse_utc-requires c =
-    let shortest = c.shortest-n in
-    (shortest.ensures.second, shortest.ensures.third, shortest.ensures.fourth)
-
--- words that are no list
-pub returns-then-not-is_list : goal.returns-then-not-is_list
-returns-then-not-is_list c =
-    let args = c.args in
-    let shortest = c.shortest-n in
-    let is_list = c.is_list in
-    let if1 = c.if-not-is_list in
-    let refuse_utc = c.refuse_utc in
-    refuses_utcs (tai_to_utc (meant args.words.now)) args.tais.now shortest.ensures.is (λ x. stop _ not_well_formed (failed is_list.ensures if1.true)) refuse_utc.ensures.0 refuse_utc.ensures.1 refuse_utc.ensures.2
-
 pub prepare-requires : goal.prepare-requires
-prepare-requires c =
-    let is_list = c.is_list in
-    let if1 = c.if-not-is_list in
-    (passed is_list.ensures if1.false, all_clear.0, all_clear.1)
+prepare-requires c = all_clear
 
-pub fill_utc-requires : goal.fill_utc-requires
-fill_utc-requires c =
-    let prepare = c.prepare in
-    let shortest = c.shortest-n in
-    (prepare.ensures.0, shortest.ensures.first, shortest.ensures.second, shortest.ensures.third, shortest.ensures.fourth)
+pub returns-in-Ok : goal.returns-in-Ok
+returns-in-Ok c =
+    let words = c.args.words.now in
+    let tais = c.args.tais.now in
+    let prepared = c.new-prepared.result in
+    hands_utcs (rw (length-map tais (tai_to_utc (meant words))) (omega (arith, c.min-n.ensures, c.min-2.ensures, c.min.ensures)))
+    (c.fill_utc.ensures (map (tai_to_utc (meant words)) tais)
+    (same_list (λ s. map (tai_to_utc s) tais) prepared.list.words.now c.in-Ok.list.words.now words c.new-prepared.ensures c.in-Ok.ensures
+    (asks_utc tais (omega (arith, c.min-n.ensures, c.min-2.ensures, c.min.ensures)) (meant prepared.list.words.now) (λ i r h q. search rules))))
 
-pub returns : goal.returns
-returns c =
-    let args = c.args in
-    let shortest = c.shortest-n in
-    let fill_utc = c.fill_utc in
-    let prepare = c.prepare in
-    hands_utcs (tai_to_utc (meant args.words.now)) args.tais.now shortest.ensures.is (fill_utc.ensures _ prepare.ensures.1)
+pub returns-in-Err : goal.returns-in-Err
+returns-in-Err c =
+    let words = c.args.words.now in
+    let tais = c.args.tais.now in
+    let none = no_list words (well_formed (meant words)) (number_of c.in-Err.refusal) not_well_formed c.in-Err.ensures in
+    hands_utcs (rw (length-map tais (tai_to_utc (meant words))) (omega (arith, c.min-n.ensures, c.min-2.ensures, c.min.ensures)))
+    (c.fill_utc-in-Err.ensures (map (tai_to_utc (meant words)) tais)
+    (refuses_utc tais (omega (arith, c.min-n.ensures, c.min-2.ensures, c.min.ensures)) (meant words) none.0
+    (λ i r h q. let e : r ≡ Err c.in-Err.refusal = search rules in ap (answer_by instant) e ∙ ap (λ n. refused n) none.1)))

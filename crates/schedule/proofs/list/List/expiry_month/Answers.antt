@@ -5,4 +5,4 @@ use Rattle.schedule.proofs.Meant.{expiry_is}
 use Rattle.schedule.proofs.list.List.expiry_month.Goals as goal
 
 pub returns : goal.returns
-returns c = c.from-2.ensures ∙ (c.latest_month.ensures ∙ ap month_of (c.from.ensures ∙ sym (expiry_is c.args.self.words.now c.args.self.formed)))
+returns c = c.expiry_month.ensures ∙ ap month_of (sym (expiry_is c.args.self.words.now c.args.self.formed))
