@@ -1,5 +1,5 @@
 -- What an output holds after a writer that was lent room enough. Assumes nothing.
-use Rattle.std.proofs.Common.{◌≡◌, ℕ, ◌≤◌, true, List, ◌++◌, Result, Ok, Err, length, take, drop, sym, ap, ◌∙◌, arith, rules, length-append}
+use Rattle.std.proofs.Common.{◌≡◌, ℕ, ◌≤◌, true, List, ◌++◌, Result, Ok, Err, length, take, drop, ap, ◌∙◌, arith, rules, length-append}
 use Rattle.std.specs.Prelude.{IsOk}
 use lib.Seq.{take-append_seam}
 use borrow.Author.Tests.{le-leb}

@@ -5,7 +5,6 @@ use Rattle.refusals.specs.declared.Refusal.{Refusal}
 use Rattle.refusals.specs.Refusals.{number_of}
 use Rattle.refusals.specs.Answer.{Answer, given, refused}
 use Rattle.ascii.specs.declared.output.Output.{Output}
-use Rattle.ascii.specs.Output.{PutsUpTo}
 use Rattle.ascii.specs.Refusal.{refusal}
 use Rattle.answers.specs.Times.{told}
 
