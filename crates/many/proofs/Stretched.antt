@@ -22,7 +22,7 @@ use Rattle.questions.specs.declared.by_day.Day.{Day}
 use Rattle.clock.specs.Days.{first_dtai, ending_of, ending}
 use Rattle.clock.specs.Known.{last_day}
 use Rattle.questions.specs.Private.{one_of, of_sign}
-use Rattle.questions.specs.Said.{ListFor, DayFor}
+use Rattle.questions.specs.Said.{ListSaid, DaySaid}
 use Rattle.questions.proofs.Signs.{of_sign_next, dtai_placed}
 use Rattle.many.specs.Private.{start_at, up_at, down_at, last_of, Starts, Tallies, Stretch, Prepared}
 use Rattle.clock.proofs.Placed.{leap_month, in_order, Placed, ending_same, ending_next}
@@ -110,7 +110,7 @@ module _ {s : Schedule} {prepared : List ℕ} (p : Prepared s prepared) {day n :
   inserted_in e l = sym (ends_with e ∙ not_lowered sign (down_at prepared n) (down_at prepared (n + 1)) (fallen e) l)
 
   -- and what the list says of the day
-  pub day_in_stretch : (k : Day) → k.up ≡ up_at prepared n → k.down ≡ down_at prepared n → k.ending ≡ ending s day → k.last ≡ last_of prepared → DayFor s day k
+  pub day_in_stretch : (k : Day) → k.up ≡ up_at prepared n → k.down ≡ down_at prepared n → k.ending ≡ ending s day → k.last ≡ last_of prepared → DaySaid s day k
   day_in_stretch k eu ed ee el =
       let here = placed s p.well prepared p.starting day n d q in
       let room : n ≤ length s.leaps = omega (arith, here.room) in
@@ -122,7 +122,7 @@ module _ {s : Schedule} {prepared : List ℕ} (p : Prepared s prepared) {day n :
       }
 
 -- a day up to the last one is asked about as it is
-pub day_for_near : {s : Schedule} {last day : ℕ} {k : Day} → last ≡ last_day s → DayFor s (min day last) k → DayFor s day k
+pub day_for_near : {s : Schedule} {last day : ℕ} {k : Day} → last ≡ last_day s → DaySaid s (min day last) k → DaySaid s day k
 day_for_near {s} {last = last} {day} f g =
     record {
       list = g.list;
@@ -130,7 +130,7 @@ day_for_near {s} {last = last} {day} f g =
     }
 
 -- a prepared list as one whose last day is known
-pub list_in_lem : {s : Schedule} {prepared : List ℕ} → Prepared s prepared → ListFor s (last_of prepared)
+pub list_in_lem : {s : Schedule} {prepared : List ℕ} → Prepared s prepared → ListSaid s (last_of prepared)
 list_in_lem p = record { well = p.well; is_last = p.is_last }
 
 -- ---- while it is looked for

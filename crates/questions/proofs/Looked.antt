@@ -14,7 +14,7 @@ use Rattle.schedule.specs.WordLayout.{word_of_sign}
 use Rattle.questions.specs.declared.by_day.Day.{Day}
 use Rattle.clock.specs.declared.Ending.TheVariants.{Ordinary}
 use Rattle.clock.specs.Days.{first_dtai, ending_of, ending}
-use Rattle.questions.specs.Said.{SaidOf, DayFor}
+use Rattle.questions.specs.Said.{SaidOf, DaySaid}
 use Rattle.clock.specs.Known.{last_day}
 use Rattle.clock.proofs.Tai.{last_inside}
 use Rattle.questions.specs.Private.{ByMonth, one_of, of_sign, Lowered}
@@ -98,7 +98,7 @@ module _ (s : Schedule) (w : well_formed s ≡ true) (day month n : ℕ) (p : By
 
 -- what a look at the day's month says is what the schedule says of the day
 pub day_by : (s : Schedule) → well_formed s ≡ true → (day month : ℕ) → (first_day ≤ day → day < end_day → month ≡ month_of day) → (k : Day)
-    → k.last ≡ last_day s → (InMonth day month → SaidOf s day k) → DayFor s day k
+    → k.last ≡ last_day s → (InMonth day month → SaidOf s day k) → DaySaid s day k
 day_by s w day month m k last is =
     record {
       list = record { well = w; is_last = last };

@@ -1,7 +1,7 @@
 -- What a list says of a day, as `by_day` has it, and what is answered by it: for single questions, whose day is found in the words, and for many,
 -- whose days are found in a list prepared. Where a schedule says it of the day, the answers are the schedule's (`dtai_said_lem`, `tai_said_lem`, ..).
 -- Assumes nothing: these are definitions.
-use Rattle.std.specs.Prelude.{◌≡◌, ℕ, ◌+◌, ◌-◌, ◌*◌, ◌/◌, ◌^◌, ◌≤◌, min, true, cond, ℤ, nat_le, nat_lt}
+use Rattle.std.specs.Prelude.{◌≡◌, ℕ, ◌+◌, ◌-◌, ◌*◌, ◌/◌, ◌^◌, ◌≤◌, min, true, false, cond, ℤ, nat_le, nat_lt}
 use Rattle.std.proofs.Math.IntN.{sub_ℕ}
 use Rattle.refusals.specs.Refusals.{before1972, not_known, not_well_formed}
 use Rattle.calendar.specs.Calendar.{first_day, end_day}
@@ -9,7 +9,7 @@ use Rattle.schedule.specs.Schedule.{Schedule, well_formed}
 use Rattle.clock.specs.Days.{micros_per_second, micros_per_day, short_day, first_dtai, dtai, ending, day_length}
 use Rattle.clock.specs.Smoothed.{uts, utc_of}
 use Rattle.clock.specs.Known.{last_day, tai_cutoff, uts_cutoff, known_to}
-use Rattle.refusals.specs.Answer.{Answer, given, require}
+use Rattle.refusals.specs.Answer.{Answer, given, refused, require}
 use Rattle.clock.specs.Question.{at_date, at_utc, at_uts, first_tai, Utc}
 use Rattle.questions.specs.declared.by_day.Day.{Day}
 
@@ -20,9 +20,14 @@ abbrev pub dtai_said : Day → ℤ
 dtai_said k = sub_ℕ (first_dtai + k.up) k.down
 
 -- the schedule is well formed, and that is its last day
-pub record ListFor (s : Schedule) (last : ℕ) : Type 0 where
+pub record ListSaid (s : Schedule) (last : ℕ) : Type 0 where
   pub well : well_formed s ≡ true
   pub is_last : last ≡ last_day s
+
+-- what is said of any schedule: its last day, or that it is not well formed
+pub data ListFor (s : Schedule) : Answer ℕ → Type 0 where
+  list_said : {last : ℕ} → ListSaid s last → ListFor s (given last)
+  no_list : well_formed s ≡ false → ListFor s (refused not_well_formed)
 
 -- the day's DTAI, and how it ends
 pub record SaidOf (s : Schedule) (day : ℕ) (k : Day) : Type 0 where
@@ -30,11 +35,21 @@ pub record SaidOf (s : Schedule) (day : ℕ) (k : Day) : Type 0 where
   pub ends : k.ending ≡ ending s day
 
 -- k is what a well-formed schedule says of the day: its last day; and DTAI and how the day ends for a day from 1972 through the last one
-pub record DayFor (s : Schedule) (day : ℕ) (k : Day) : Type 0 where
-  pub list : ListFor s k.last
+pub record DaySaid (s : Schedule) (day : ℕ) (k : Day) : Type 0 where
+  pub list : ListSaid s k.last
   pub is : first_day ≤ day → day ≤ last_day s → SaidOf s day k
 
--- ---- what is answered by it: a list says it, so no answer is refused with 11 but one by a last day past the calendar
+-- what is said of a day under any schedule: that, or that the schedule is not well formed
+pub data DayFor (s : Schedule) (day : ℕ) : Answer Day → Type 0 where
+  day_said : {k : Day} → DaySaid s day k → DayFor s day (given k)
+  no_day : well_formed s ≡ false → DayFor s day (refused not_well_formed)
+
+-- ---- what is answered by it
+
+-- the answer by what is said, or the refusal of what is not
+abbrev pub by_said : {A B : Type 0} → Answer A → (A → Answer B) → Answer B
+by_said (given k) f = f k
+by_said (refused n) f = refused n
 
 -- a - b as 64 bits hold it, with 2^64 more where it is below zero. By what a list says it never is (`tai_said_lem`, `utc_said`).
 abbrev pub held : ℕ → ℕ → ℕ
@@ -45,26 +60,27 @@ abbrev pub tai_said : Day → ℕ → ℕ → ℕ
 tai_said k day t = held (micros_per_day * day + t + micros_per_second * (first_dtai + k.up)) (micros_per_day * first_day + micros_per_second * k.down)
 
 -- DTAI for a date
-abbrev pub dtai_by : Day → ℕ → Answer ℤ
-dtai_by k day = at_date true k.last day (dtai_said k)
+abbrev pub dtai_by : Answer Day → ℕ → Answer ℤ
+dtai_by said day = by_said said (λ k. at_date true k.last day (dtai_said k))
 
 -- UTC to TAI; no list ends past the calendar
-abbrev pub tai_by : Day → ℕ → ℕ → Answer ℕ
-tai_by k day t = require (nat_lt k.last end_day) not_well_formed (at_utc true k.last k.ending tai_cutoff day t (tai_said k day t))
+abbrev pub tai_by : Answer Day → ℕ → ℕ → Answer ℕ
+tai_by said day t =
+    by_said said (λ k. require (nat_lt k.last end_day) not_well_formed (at_utc true k.last k.ending tai_cutoff day t (tai_said k day t)))
 
 -- UTC to UTS; and before the last 1,001 s of a day, by the last day of the list
-abbrev pub uts_by : Day → ℕ → ℕ → Answer ℕ
-uts_by k day t = at_utc true k.last k.ending uts_cutoff day t (uts k.ending t)
+abbrev pub uts_by : Answer Day → ℕ → ℕ → Answer ℕ
+uts_by said day t = by_said said (λ k. at_utc true k.last k.ending uts_cutoff day t (uts k.ending t))
 
-abbrev pub early_uts : ℕ → ℕ → ℕ → Answer ℕ
-early_uts last day t = at_date true last day (1000 * min t uts_cutoff)
+abbrev pub early_uts : Answer ℕ → ℕ → ℕ → Answer ℕ
+early_uts said day t = by_said said (λ last. at_date true last day (1000 * min t uts_cutoff))
 
 -- UTS to UTC; and likewise
-abbrev pub micros_by : Day → ℕ → ℕ → Answer ℕ
-micros_by k day u = at_uts true k.last day u (utc_of k.ending u)
+abbrev pub micros_by : Answer Day → ℕ → ℕ → Answer ℕ
+micros_by said day u = by_said said (λ k. at_uts true k.last day u (utc_of k.ending u))
 
-abbrev pub early_micros : ℕ → ℕ → ℕ → Answer ℕ
-early_micros last day u = at_date true last day (u / 1000)
+abbrev pub early_micros : Answer ℕ → ℕ → ℕ → Answer ℕ
+early_micros said day u = by_said said (λ last. at_date true last day (u / 1000))
 
 -- TAI to UTC goes by a day near the TAI: no DTAI is above 266 s, so the day that this gives is that of the TAI or the one before it, or `last`
 abbrev pub most_dtai : ℕ
@@ -83,9 +99,10 @@ from_start k day t =
     cond (nat_lt t short_day) (given (record { day = day; micros = t }))
     (cond (nat_lt t (day_length k.ending)) (on_day day t k.last) (on_day (day + 1) (t - day_length k.ending) k.last))
 
--- TAI to UTC, by the day near it: 8, 10 where that day lies past the calendar; and then the instant so far after that day's start
-abbrev pub utc_by : Day → ℕ → ℕ → Answer Utc
-utc_by k near x =
+-- TAI to UTC, by the day near it: 11, 8, 10 where that day lies past the calendar; and then the instant so far after that day's start
+abbrev pub utc_by : Answer Day → ℕ → ℕ → Answer Utc
+utc_by said near x =
+    by_said said λ k.
     require (nat_le first_tai x) before1972
     (require (nat_lt near end_day) not_known
     (from_start k near (held x (tai_said k near 0))))

@@ -1,6 +1,6 @@
 // What is answered by what a list says of a day: for single questions, whose day is found in the words, and for many, whose days are found in a
 // list prepared.
-ghost use Rattle.std.specs.Prelude.{◌≡◌, ◌<◌, ◌≤◌};
+ghost use Rattle.std.specs.Prelude.{◌≡◌, ◌-◌, ◌<◌, ◌≤◌, min};
 ghost use Rattle.clock.specs.Days.{short_day};
 ghost use Rattle.calendar.specs.Calendar.{end_day};
 ghost use Rattle.clock.specs.Answers.{tai_count, utc_count, uts_count, instant};
@@ -33,11 +33,18 @@ pub struct Day {
     pub last: u64,
 }
 
+// The last day before an expiry. Past the calendar, where no list expires, it is the calendar's last day, and for day 0 it is day 0.
+pub fn day_before(expiry: u32) -> u64
+    ensures { result ≡ min (expiry - 1) (end_day - 1) }
+{
+    u64::from(expiry.saturating_sub(1)).min(END_DAY - 1)
+}
+
 // Z, the last day of a list before its expiry.
 pub fn last_day(list: List<'_>) -> u64
     ensures { result ≡ last_day (meant list.entry.words.now) }
 {
-    u64::from(list.expiry() - 1)
+    day_before(list.expiry())
 }
 
 // The day of a TAI or the one before it, and at most `last`.
@@ -55,17 +62,19 @@ fn dtai_said(k: Day) -> i32
 }
 
 // DTAI, TAI minus UTC, for a date.
-pub fn dtai_on(k: Day, day: u64) -> Result<i32, Refusal>
-    ensures { answer_of result ≡ dtai_by k day }
+pub fn dtai_on(said: Result<Day, Refusal>, day: u64) -> Result<i32, Refusal>
+    ensures { answer_of result ≡ dtai_by (answer_of said) day }
 {
+    let k = said?;
     check_date(k.last, day)?;
     Ok(dtai_said(k))
 }
 
 // UTC to TAI.
-pub fn tai_on(k: Day, day: u64, t: UtcMicros) -> Result<TaiMicros, Refusal>
-    ensures { answer_by tai_count result ≡ tai_by k day t.0 }
+pub fn tai_on(said: Result<Day, Refusal>, day: u64, t: UtcMicros) -> Result<TaiMicros, Refusal>
+    ensures { answer_by tai_count result ≡ tai_by (answer_of said) day t.0 }
 {
+    let k = said?;
     // No list ends so late.
     if END_DAY <= k.last {
         return Err(Refusal::NotWellFormed);
@@ -75,35 +84,37 @@ pub fn tai_on(k: Day, day: u64, t: UtcMicros) -> Result<TaiMicros, Refusal>
 }
 
 // UTC to smoothed time.
-pub fn uts_on(k: Day, day: u64, t: UtcMicros) -> Result<UtsNanos, Refusal>
-    ensures { answer_by uts_count result ≡ uts_by k day t.0 }
+pub fn uts_on(said: Result<Day, Refusal>, day: u64, t: UtcMicros) -> Result<UtsNanos, Refusal>
+    ensures { answer_by uts_count result ≡ uts_by (answer_of said) day t.0 }
 {
+    let k = said?;
     check_utc(k.last, k.ending, UTS_CUTOFF, day, t.0)?;
     Ok(UtsNanos(smoothed(k.ending, t.0)))
 }
 
 // UTC to smoothed time before the last 1,001 s of a day, where it does not depend on how the day ends and is known on every known
 // date.
-pub fn early_uts(last: u64, day: u64, t: UtcMicros) -> Result<UtsNanos, Refusal>
-    ensures { answer_by uts_count result ≡ early_uts last day t.0 }
+pub fn early_uts(last: Result<u64, Refusal>, day: u64, t: UtcMicros) -> Result<UtsNanos, Refusal>
+    ensures { answer_by uts_count result ≡ early_uts (answer_of last) day t.0 }
 {
-    check_date(last, day)?;
+    check_date(last?, day)?;
     // So the product fits for any number; before the cut-off the smaller one is the microseconds.
     Ok(UtsNanos(1000 * t.0.min(UTS_CUTOFF)))
 }
 
 // Smoothed time to UTC, likewise.
-pub fn early_micros(last: u64, day: u64, u: UtsNanos) -> Result<UtcMicros, Refusal>
-    ensures { answer_by utc_count result ≡ early_micros last day u.0 }
+pub fn early_micros(last: Result<u64, Refusal>, day: u64, u: UtsNanos) -> Result<UtcMicros, Refusal>
+    ensures { answer_by utc_count result ≡ early_micros (answer_of last) day u.0 }
 {
-    check_date(last, day)?;
+    check_date(last?, day)?;
     Ok(UtcMicros(u.0 / 1000))
 }
 
 // Smoothed time to UTC: the greatest microsecond of the day whose smoothed time is not above the one given.
-pub fn micros_on(k: Day, day: u64, u: UtsNanos) -> Result<UtcMicros, Refusal>
-    ensures { answer_by utc_count result ≡ micros_by k day u.0 }
+pub fn micros_on(said: Result<Day, Refusal>, day: u64, u: UtsNanos) -> Result<UtcMicros, Refusal>
+    ensures { answer_by utc_count result ≡ micros_by (answer_of said) day u.0 }
 {
+    let k = said?;
     check_instant(k.last, NANOS_PER_DAY, NANOS_CUTOFF, day, u.0)?;
     Ok(UtcMicros(unsmoothed(k.ending, u.0)))
 }
@@ -135,9 +146,10 @@ fn late_from_start(k: Day, day: u64, t: u64) -> Result<UtcInstant, Refusal>
 }
 
 // TAI to UTC, by the day near it: the one instant whose TAI it is. It lies on that day or on the next.
-pub fn utc_on(k: Day, near: u64, tai: TaiMicros) -> Result<UtcInstant, Refusal>
-    ensures { answer_by instant result ≡ utc_by k near tai.0 }
+pub fn utc_on(said: Result<Day, Refusal>, near: u64, tai: TaiMicros) -> Result<UtcInstant, Refusal>
+    ensures { answer_by instant result ≡ utc_by (answer_of said) near tai.0 }
 {
+    let k = said?;
     if tai.0 < FIRST_TAI {
         return Err(Refusal::Before1972);
     }

@@ -5,7 +5,7 @@ ghost use Rattle.refusals.specs.Answer.{answer_of};
 ghost use Rattle.schedule.specs.WordLayout.{meant};
 ghost use Rattle.clock.specs.Days.{long_day, day_length};
 ghost use Rattle.clock.specs.Question.{at_date};
-ghost use Rattle.questions.specs.Said.{tai_said, DayFor};
+ghost use Rattle.questions.specs.Said.{tai_said, DaySaid};
 
 use crate::by_day::Day;
 use crate::look::look;
@@ -27,7 +27,7 @@ pub(crate) fn day_length(w: Ending) -> u64
 
 // What a list says of a day. Outside the calendar any month will do, since only `last` means something then.
 pub(crate) fn day_in(list: List<'_>, day: u64) -> Day
-    ensures { DayFor (meant list.entry.words.now) day result }
+    ensures { DaySaid (meant list.entry.words.now) day result }
 {
     let month = calendar::month_of(day).unwrap_or(0);
     look(list, u32::from(month), day)

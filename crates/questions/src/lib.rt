@@ -7,6 +7,7 @@ ghost use Rattle.schedule.specs.WordLayout.{meant};
 ghost use Rattle.clock.specs.Question.{dtai_on, utc_to_tai, tai_to_utc, utc_to_uts, uts_to_utc};
 ghost use Rattle.clock.specs.Answers.{tai_count, utc_count, uts_count, instant};
 ghost use Rattle.refusals.specs.Answer.{answer_by, answer_of};
+ghost use Rattle.questions.specs.Said.{ListFor, DayFor};
 
 pub mod by_day; // by_day.rt: what is answered by what a list says of a day
 mod days;
@@ -15,19 +16,35 @@ mod look;
 mod smooth;
 
 use crate::by_day::{
-    dtai_on, early_micros, early_uts, last_day, micros_on, near_day, tai_on, utc_on, uts_on,
+    Day, dtai_on, early_micros, early_uts, last_day, micros_on, near_day, tai_on, utc_on, uts_on,
 };
 use crate::days::day_in;
 use clock::{NANOS_CUTOFF, TaiMicros, UTS_CUTOFF, UtcInstant, UtcMicros, UtsNanos};
 use refusals::Refusal;
 use schedule::List;
 
+// What words say of a day, if they are a list.
+fn said_of(words: &[u32; 514], day: u64) -> Result<Day, Refusal>
+    ensures { DayFor (meant words.now) day (answer_of result) }
+{
+    let list = List::of(words)?;
+    Ok(day_in(list, day))
+}
+
+// The last day of words before their expiry, if they are a list.
+fn last_of(words: &[u32; 514]) -> Result<u64, Refusal>
+    ensures { ListFor (meant words.now) (answer_of result) }
+{
+    let list = List::of(words)?;
+    Ok(last_day(list))
+}
+
 // DTAI, TAI minus UTC, for a date.
+#[tactic(auto, using(crate::proofs::Said::dtai_said_lem))]
 pub fn dtai(words: &[u32; 514], day: u64) -> Result<i32, Refusal>
     ensures { answer_of result ≡ dtai_on (meant words.now) day }
 {
-    let list = List::of(words)?;
-    dtai_on(day_in(list, day), day)
+    dtai_on(said_of(words, day), day)
 }
 
 // UTC to TAI.
@@ -35,8 +52,7 @@ pub fn dtai(words: &[u32; 514], day: u64) -> Result<i32, Refusal>
 pub fn utc_to_tai(words: &[u32; 514], day: u64, t: UtcMicros) -> Result<TaiMicros, Refusal>
     ensures { answer_by tai_count result ≡ utc_to_tai (meant words.now) day t.0 }
 {
-    let list = List::of(words)?;
-    tai_on(day_in(list, day), day, t)
+    tai_on(said_of(words, day), day, t)
 }
 
 // TAI to UTC: the one instant whose TAI it is.
@@ -45,7 +61,7 @@ pub fn tai_to_utc(words: &[u32; 514], x: TaiMicros) -> Result<UtcInstant, Refusa
 {
     let list = List::of(words)?;
     let near = near_day(x, last_day(list));
-    utc_on(day_in(list, near), near, x)
+    utc_on(Ok(day_in(list, near)), near, x)
 }
 
 // UTC to smoothed time.
@@ -53,11 +69,10 @@ pub fn tai_to_utc(words: &[u32; 514], x: TaiMicros) -> Result<UtcInstant, Refusa
 pub fn utc_to_uts(words: &[u32; 514], day: u64, t: UtcMicros) -> Result<UtsNanos, Refusal>
     ensures { answer_by uts_count result ≡ utc_to_uts (meant words.now) day t.0 }
 {
-    let list = List::of(words)?;
     if t.0 < UTS_CUTOFF {
-        return early_uts(last_day(list), day, t);
+        return early_uts(last_of(words), day, t);
     }
-    uts_on(day_in(list, day), day, t)
+    uts_on(said_of(words, day), day, t)
 }
 
 // Smoothed time to UTC: the greatest microsecond of the day whose smoothed time is not above the one given.
@@ -65,9 +80,8 @@ pub fn utc_to_uts(words: &[u32; 514], day: u64, t: UtcMicros) -> Result<UtsNanos
 pub fn uts_to_utc(words: &[u32; 514], day: u64, u: UtsNanos) -> Result<UtcMicros, Refusal>
     ensures { answer_by utc_count result ≡ uts_to_utc (meant words.now) day u.0 }
 {
-    let list = List::of(words)?;
     if u.0 < NANOS_CUTOFF {
-        return early_micros(last_day(list), day, u);
+        return early_micros(last_of(words), day, u);
     }
-    micros_on(day_in(list, day), day, u)
+    micros_on(said_of(words, day), day, u)
 }

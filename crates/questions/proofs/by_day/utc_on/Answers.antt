@@ -12,7 +12,8 @@ pub returns : goal.returns
 returns c =
     let args = c.args in
     let since = held_is args.tai.0 c.tai_at.result (omega arith) c.tai_at.type_inv ∙ ap (λ start. held args.tai.0 start) c.tai_at.ensures in
-    c.late_from_start.ensures
+    rw c.in_ok-k.was
+    (c.late_from_start.ensures
     ∙ sym (pass before1972 (le-leb first_tai _ c.if-tai-lt-FIRST_TAI.false)
     ∙ pass not_known (lt-ltb args.near end_day c.if-near-ge-END_DAY.false)
-    ∙ ap (λ t. from_start args.k args.near t) (sym since))
+    ∙ ap (λ t. from_start c.in_ok-k.k args.near t) (sym since)))

@@ -1,0 +1,13 @@
+-- `questions::last_of` meets its contract. Assumes nothing.
+use Rattle.std.proofs.Common.{rules}
+use Rattle.schedule.specs.WordLayout.{meant}
+use Rattle.questions.proofs.Said.{no_list_of, list_of_words}
+use Rattle.questions.proofs.last_of.Goals as goal
+
+pub returns-in_err-list : goal.returns-in_err-list
+returns-in_err-list c =
+    let e = no_list_of (meant c.args.words.now) c.args.words.now c.in_err-list.ensures in
+    search rules
+
+pub returns : goal.returns
+returns c = list_of_words c.args.words.now c.in_ok-list.ensures c.last_day.ensures c.in_ok-list.list.formed
