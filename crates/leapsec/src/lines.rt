@@ -1,6 +1,6 @@
 // The lines of standard input: questions, one a line, or a trace that is replayed. Each read is followed by the answers to all lines that are
 // then complete, so one who asks and waits is answered.
-ghost use Rattle.std.specs.Prelude.{◌≤◌, length};
+ghost use Rattle.std.specs.Prelude.{◌≡◌, ◌-◌, ◌≤◌, length, IfSome};
 
 use crate::output::print_answer;
 use shell::output::{say, within, write};
@@ -64,6 +64,7 @@ impl Answers for Trace {
 }
 
 // What is read and not answered yet: the bytes of a buffer between two places.
+#[derive(Drop)]
 struct Input<'a> {
     buffer: &'a mut [u8],
     from: usize,
@@ -72,6 +73,19 @@ struct Input<'a> {
 }
 
 impl<'a> Input<'a> {
+    fn bytes(&self) -> &[u8]
+        ensures { length result.now ≡ self.now.to - self.now.from }
+    {
+        &self.buffer[self.from..self.to]
+    }
+
+    // A number of its bytes are answered.
+    fn pass(&mut self, count: usize)
+        requires { count ≤ self.old.to - self.old.from }
+    {
+        self.from += count;
+    }
+
     // Moves the start of a line that is not complete to the start of the buffer.
     fn hold(&mut self) {
         let held = (self.to - self.from).min(MOST_HELD);
@@ -93,6 +107,7 @@ impl<'a> Input<'a> {
             }
             Err(error) => {
                 say(rt, "standard input", error);
+                self.from = 0;
                 self.to = 0;
                 false
             }
@@ -103,6 +118,7 @@ impl<'a> Input<'a> {
 // Writes the answers to complete lines at the start of an input, as many as a buffer has room for, and says how many bytes they were; none if the
 // answers could not be written. No bytes are used where no line is complete.
 fn answer_some<A: Answers>(rt: &HostRuntime, answers: &mut A, input: &[u8]) -> Option<usize>
+    ensures { IfSome result (λ used. used ≤ length input.now) }
 {
     let mut out = io::large_buffer();
     let step = answers.answer(input, &mut out);
@@ -123,18 +139,17 @@ pub(crate) fn answer<A: Answers + Drop>(rt: &HostRuntime, mut answers: A) {
         to: 0,
     };
     for _ in 0..u64::MAX {
-        let Some(used) = answer_some(rt, &mut answers, &input.buffer[input.from..input.to]) else {
+        let Some(used) = answer_some(rt, &mut answers, input.bytes()) else {
             return;
         };
-        if used == 0 {
-            if !input.read(rt) {
-                let line = &input.buffer[..input.to];
-                if !line.is_empty() {
-                    answers.end(rt, line);
-                }
-                return;
+        if 0 < used {
+            input.pass(used);
+        } else if !input.read(rt) {
+            let line = input.bytes();
+            if !line.is_empty() {
+                answers.end(rt, line);
             }
+            return;
         }
-        input.from += used;
     }
 }

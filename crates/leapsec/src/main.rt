@@ -16,7 +16,8 @@ use shell::words::{Own, own_of};
 use std::env::FillError;
 use std::rt::Env;
 
-const EXPECTED: &[u8] = b"? expected: show, nybbles, text, dtai, tai, utc, uts, unsmooth, compare, longer, ask, replay or help\n";
+const EXPECTED: &[u8] =
+    b"? expected: show, nybbles, text, dtai, tai, utc, uts, unsmooth, compare, longer, ask, replay or help\n";
 
 // Answers a word that is none of a question's, by what stands behind it: nothing may behind `ask` and `replay`, and behind `help` a word.
 fn run_own(rt: &HostRuntime, own: Own, rest: Option<&[u8]>) {

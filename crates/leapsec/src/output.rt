@@ -6,7 +6,11 @@ use shell::output::{within, write};
 pub(crate) fn print_answer(rt: &HostRuntime, line: &[u8], lines: bool) {
     let mut bytes = io::large_buffer();
     let end = command::answer(line, lines, &mut bytes);
-    let mut out = Output { bytes: &mut bytes, at: end, lines };
+    let mut out = Output {
+        bytes: &mut bytes,
+        at: end,
+        lines,
+    };
     out.put(b'\n');
     let n = out.at;
     write(rt, &bytes[..within(n, &bytes)]);
