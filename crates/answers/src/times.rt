@@ -12,7 +12,7 @@ use clock::{TaiMicros, UtcMicros, UtsNanos};
 use refusals::Refusal;
 
 // A time question, with a day or an instant.
-#[derive(Clone, Copy)]
+#[derive(Clone, Copy, Debug, PartialEq, Eq)]
 pub enum Asked {
     Dtai(u64),
     Tai(u64, UtcMicros),

@@ -1,5 +1,5 @@
 // The question that a line is.
-ghost use Rattle.std.specs.Prelude.{◌≡◌, ℕ, Bool, Some, List, [], ◌∷◌, ◌≤◌, ◌<◌, length, MatchOption};
+ghost use Rattle.std.specs.Prelude.{◌≡◌, ℕ, Bool, Some, List, [], ◌∷◌, ◌≤◌, length, MatchOption};
 ghost use Rattle.std.specs.Option.{ok_or};
 ghost use Rattle.ascii.specs.Lines.{space_byte};
 ghost use Rattle.ascii.specs.Parts.{parts};
