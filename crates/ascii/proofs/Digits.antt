@@ -7,9 +7,7 @@ use Prim.Native.Nat.{ℕ, zero, suc, ◌+◌, ◌-◌, ◌*◌, ◌/◌, ◌%◌
 use native.Mathlib.Nat.{pow-suc, mul_assoc, mul_comm, mul-le-mul_left, mul-le-mul_right}
 use native.Mathlib.Omega.{arith}
 use lib.Dec.{ltb, leb}
-use lib.ListN.{length, get_or, set, take, drop, length-append, length-drop, drop_of_length-le}
-use lib.Seq.{sets-eq, length-take-le, drop-append_seam}
-use native.Mathlib.Numerals.{add-one}
+use lib.ListN.{length, get_or, drop, length-append, drop_of_length-le}
 use borrow.Author.Tests.{ltb-true, ltb-false, lt-ltb, le-ltb, leb-true, le-leb, lt-leb}
 use Rattle.ascii.specs.Ascii.{within}
 use Rattle.std.specs.Prelude.{Option, Some, None}
@@ -58,36 +56,6 @@ decimal_short (suc k) n h =
     by_bool (ltb n 10) (λ a. omega (arith, ap length (small n (ltb-true n 10 a))))
     (λ a. let tenth : length (decimal (n / 10)) ≤ suc k = decimal_short k (n / 10) (omega (arith, pow-suc 10 (suc k))) in
     omega (arith, ap length (large n (ltb-false n 10 a)), length-append (decimal (n / 10)) (digit (n % 10) ∷ [])))
-
--- two stores next to each other
-two_set : (l : List ℕ) (i a b : ℕ) → i + 2 ≤ length l → drop i (set (set l i a) (i + 1) b) ≡ a ∷ b ∷ drop (i + 2) l
-two_set l i a b h =
-    let cut : length (take i l) ≡ i = length-take-le i l (omega arith) in
-    let seam : drop (length (take i l)) (take i l ++ (a ∷ b ∷ drop (i + 2) l)) ≡ a ∷ b ∷ drop (i + 2) l = drop-append_seam (take i l) (a ∷ b ∷ drop (i + 2) l) in
-    rw (add-one, sets-eq (a ∷ b ∷ []) l i h, append_assoc (take i l) (a ∷ b ∷ []) (drop (i + 2) l)) (rw cut at seam)
-
--- where the last digits of a number are in an array from a place on, and `rest` is what stands before them: two more are put before them
-module _ (n rest : ℕ) (digits : List ℕ) (first : ℕ) (e : decimal n ≡ decimal rest ++ drop first digits) (large_lem : 100 ≤ rest) where
-  pub room : length digits ≡ 20 → first ≤ 20 → n < 10 ^ 20 → 2 ≤ first
-  room l f h =
-      omega (
-        arith,
-        l,
-        decimal_short 19 n h,
-        ap length e,
-        length-append (decimal rest) (drop first digits),
-        length-drop first digits,
-        ap length (more_digits rest large_lem),
-        length-append (decimal (rest / 100)) (pair rest),
-      )
-
-  pub two_more : {a b : ℕ} → 2 ≤ first → first ≤ length digits → a ≡ digit (rest / 10 % 10) → b ≡ digit (rest % 10)
-      → decimal n ≡ decimal (rest / 100) ++ drop (first - 2) (set (set digits (first - 2) a) (first - 2 + 1) b)
-  two_more {a} {b} r f g h =
-      let back : first - 2 + 2 ≡ first = omega (arith, r) in
-      let two : drop (first - 2) (set (set digits (first - 2) a) (first - 2 + 1) b) ≡ a ∷ b ∷ drop first digits
-      = two_set digits (first - 2) a b (omega (arith, r, f)) ∙ rw back in
-      e ∙ rw (two, g, h, more_digits rest large_lem) (append_assoc (decimal (rest / 100)) (pair rest) (drop first digits))
 
 -- ---- the reading of a number
 

@@ -2,14 +2,12 @@
 -- Assumes nothing.
 use mathlib.Core.Path.{◌≡◌, refl, sym, ap, ◌∙◌}
 use mathlib.Core.List.{List, [], ◌∷◌, ◌++◌, append-nil, append_assoc}
-use Prim.Native.Nat.{ℕ, min, ◌-◌, suc, ◌+◌, ◌*◌, ◌≤◌, ◌<◌}
+use Prim.Native.Nat.{ℕ, suc, ◌+◌, ◌*◌, ◌≤◌}
 use native.Mathlib.Nat.{add-zero, zero-add, add-suc, suc-add}
 use native.Mathlib.Omega.{arith}
 use native.Mathlib.Decide.{dec_le}
 use lib.ListN.{length, take, drop, set, length-append, drop_of_length-le, take-append-drop}
 use lib.Seq.{sets, length-sets, sets-eq, set_out, take_all, length-take-le, take-append_seam}
-use Rattle.std.proofs.Common.{drop-drop}
-use borrow.Rule.Slice.PartMut.{put_mid}
 use Rattle.ascii.specs.declared.output.Output.{Output}
 use Rattle.ascii.specs.Output.{Puts, PutsUpTo, filled, Held}
 
@@ -29,42 +27,6 @@ nothing out = record { same_buffer = refl; same_lines = refl; stored = refl; nex
 -- an output keeps its length
 pub same_long : {out out' : Output} {bytes : List ℕ} → Puts out out' bytes → length out'.bytes.now ≡ length out.bytes.now
 same_long {out} {out'} {bytes} p = ap length p.stored ∙ length-sets out.bytes.now out.at bytes
-
--- as many bytes are put as there is room for
-pub none_fit : (out : Output) (bytes : List ℕ) → length out.bytes.now ≤ out.at → Puts out out bytes
-none_fit out bytes h = record { same_buffer = refl; same_lines = refl; stored = sym (sets_out bytes out.bytes.now out.at h); next = omega arith }
-
-cut_sets : (bytes l : List ℕ) (i n : ℕ) → i < length l → n ≡ min (length bytes) (length l - i) → sets l i bytes ≡ take i l ++ take n bytes ++ drop (i + n) l
-cut_sets bytes l i n h e =
-    let cut = take n bytes in
-    let some : length cut ≡ n = length-take-le n bytes (omega (arith, e)) in
-    elim (dec_le (length bytes) (length l - i)) [
-      | yes g ↦
-          let all : n ≡ length bytes = omega (arith, e) in
-          rw (all, take_all (length bytes) bytes (omega arith)) (sets-eq bytes l i (omega arith))
-      | no g ↦
-          ap (sets l i) (sym (take-append-drop n bytes))
-          ∙ sets_append cut (drop n bytes) l i
-          ∙ sets_out (drop n bytes) (sets l i cut) (i + length cut) (omega (arith, some, e, length-sets l i cut))
-          ∙ sets-eq cut l i (omega (arith, some, e))
-          ∙ rw some
-    ]
-
-pub some_fit : {out out' : Output} {bytes stored : List ℕ} {n : ℕ} → out'.bytes.ghost_name ≡ out.bytes.ghost_name → out'.lines ≡ out.lines
-    → out.at < length out.bytes.now → n ≡ min (length bytes) (length out.bytes.now - out.at) → stored ≡ take n bytes
-    → out'.bytes.now ≡ put_mid out.at (out.at + n - out.at) out.bytes.now stored → out'.at ≡ out.at + n → Puts out out' bytes
-some_fit {out} {out'} {bytes} {stored} {n} g l h e k f a = record {
-  same_buffer = g;
-  same_lines = l;
-  stored = f ∙ fitted;
-  next = a ∙ ap (λ (k : ℕ). out.at + k) e;
-}
-  where
-    fitted : put_mid out.at (out.at + n - out.at) out.bytes.now stored ≡ sets out.bytes.now out.at bytes
-    fitted =
-        let was = out.bytes.now in
-        let count : out.at + n - out.at ≡ n = omega arith in
-        rw (k, count, drop-drop) (sym (append_assoc (take out.at was) (take n bytes) (drop (out.at + n) was))) ∙ sym (cut_sets bytes was out.at n h e)
 
 -- bytes, and then others
 pub both : {out out' out'' : Output} {xs ys : List ℕ} → Puts out out' xs → Puts out' out'' ys → Puts out out'' (xs ++ ys)

@@ -21,25 +21,18 @@ impl Output<'_> {
         self.put_both(digit(n / 10 % 10), digit(n % 10));
     }
 
-    // Puts a number, with no leading zero. By two digits at a time, and all at once, since divisions and stores take longer than digits.
+    // Puts a number, with no leading zero. By two digits at a time, since calls and divisions take longer than digits.
     pub fn put_decimal(&mut self, n: u64)
         ensures { PutsUpTo 20 self.old self.new (decimal n) }
     {
-        let mut digits = [0u8; 20];
-        let mut first = 20;
-        let mut rest = n;
-        while 100 <= rest {
-            first -= 2;
-            digits[first] = digit(rest / 10 % 10);
-            digits[first + 1] = digit(rest % 10);
-            rest /= 100;
-        }
-        if rest < 10 {
-            self.put(digit(rest));
+        if n < 10 {
+            self.put(digit(n));
+        } else if n < 100 {
+            self.put_pair(n);
         } else {
-            self.put_pair(rest);
+            self.put_decimal(n / 100);
+            self.put_pair(n);
         }
-        self.put_all(&digits[first..]);
     }
 
     // Puts an integer, with `-` if it is below zero.

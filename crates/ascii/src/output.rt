@@ -53,10 +53,8 @@ impl<'a> Output<'a> {
     pub fn put_all(&mut self, bytes: &[u8])
         ensures { Puts self.old self.new bytes.now }
     {
-        if self.at < self.bytes.len() {
-            let n = bytes.len().min(self.bytes.len() - self.at);
-            self.bytes[self.at..self.at + n].copy_from_slice(&bytes[..n]);
-            self.at += n;
+        for b in bytes {
+            self.put(*b);
         }
     }
 }

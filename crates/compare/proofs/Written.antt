@@ -1,6 +1,5 @@
 -- Bytes that were put into a local output with room for them, and are then copied to the caller's, if they fit. Assumes nothing.
-use Rattle.std.proofs.Common.{◌≡◌, ℕ, ◌+◌, ◌≤◌, ◌<◌, true, List, [], ◌∷◌, ◌++◌, length, take, drop, sym, ap, ◌∙◌, arith}
-use lib.Seq.{sets-eq}
+use Rattle.std.proofs.Common.{◌≡◌, ℕ, ◌≤◌, ◌<◌, true, List, [], ◌∷◌, length, take, sym, ap, ◌∙◌, arith}
 use Rattle.refusals.specs.Answer.{given, refused}
 use Rattle.refusals.specs.Refusals.{output_short}
 use Rattle.ascii.specs.declared.output.Output.{Output}
@@ -28,9 +27,7 @@ module _ (s t : Schedule) (w : well_formed s ≡ true) (v : well_formed t ≡ tr
     pub too_short : length out < last.at → Fits (compared s t) out (refused output_short) out
     too_short h = no_room (compared s t) out last.at counted.0 h
 
-    -- or the bytes are copied to its start
-    pub copied_out : last.at ≤ length out → {copy : List ℕ} → copy ≡ take last.at last.bytes.now → Fits (compared s t) out (given last.at) (copy ++ drop last.at out)
-    copied_out h e =
-        let n = counted.0 in
-        let z : 0 + length (compared s t) ≡ last.at = omega (arith, n) in
-        fits (compared s t) out last.at n h _ (rw (e, counted.1) (sym (sets-eq (compared s t) out 0 (omega (arith, n)) ∙ ap (λ (k : ℕ). compared s t ++ drop k out) z)))
+    -- or the bytes are put at its start
+    pub copied_out : last.at ≤ length out → {fresh done : Output} → Puts fresh done (take last.at last.bytes.now) → fresh.at ≡ 0 → fresh.bytes.now ≡ out → {copy : List ℕ}
+        → copy ≡ done.bytes.now → Fits (compared s t) out (given last.at) copy
+    copied_out h p start same now = fits (compared s t) out last.at counted.0 h _ (rw (now, ← counted.1, ← same, ← start) p.stored)

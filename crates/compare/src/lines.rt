@@ -97,7 +97,7 @@ impl TwoLists<'_> {
         if out.len() < count {
             return Err(Refusal::OutputShort);
         }
-        out[..count].copy_from_slice(&lines.bytes[..count]);
+        Output::new(out, true).put_all(&lines.bytes[..count]);
         Ok(count)
     }
 }

@@ -29,7 +29,3 @@ Scanned bytes place (Months g c) =
 Scanned bytes place (Ended c) = (t : ℕ) (s : Schedule) → read_from 0 place t s (drop place bytes) ≡ refusal ends_early c.at
 Scanned bytes place (Misplaced c) = (t : ℕ) (s : Schedule) → read_from 0 place t s (drop place bytes) ≡ refusal not_allowed c.at
 Scanned bytes place (Malformed c) = (t : ℕ) (s : Schedule) → read_from 0 place t s (drop place bytes) ≡ refusal bad_gap c.at
-
--- the room for a text that is written (`at_most_752`)
-abbrev pub max_text : ℕ
-max_text = 752

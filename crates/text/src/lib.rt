@@ -14,9 +14,10 @@ ghost use Rattle.text.specs.Private.{Ends, Scanned, Due};
 
 mod write; // write.rt: the text of a list
 
+use ascii::output::Output;
 use refusals::Refusal;
 use schedule::{ParseError, Sign};
-use write::Text;
+use write::{put_text, text_len};
 
 #[derive(Clone, Copy)]
 struct Cursor {
@@ -195,12 +196,11 @@ pub fn sign_byte(sign: Sign) -> u8
 pub fn write_text(words: &[u32; 514], out: &mut [u8]) -> Result<usize, Refusal>
     ensures { (answer_of result ≡ writing (meant words.now) (text_of (meant words.now)) (length out.old)) × (out.new ≡ written (meant words.now) (text_of (meant words.now)) out.old) }
 {
-    let text = Text::of(schedule::writable(words)?);
-    let bytes = text.bytes();
-    let count = bytes.len();
-    if out.len() < count {
+    let can = schedule::writable(words)?;
+    if out.len() < text_len(can) {
         return Err(Refusal::OutputShort);
     }
-    out[..count].copy_from_slice(bytes);
-    Ok(count)
+    let mut output = Output::new(out, true);
+    put_text(&mut output, can);
+    Ok(output.at)
 }

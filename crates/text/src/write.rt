@@ -1,86 +1,60 @@
 // The text of a list.
-ghost use Rattle.std.specs.Prelude.{◌≡◌, true, ℕ, ◌+◌, ◌≤◌, List, [], ◌++◌, length, take};
+ghost use Rattle.std.specs.Prelude.{◌≡◌, ◌+◌, ◌≤◌, length};
+ghost use Rattle.ascii.specs.Output.{Puts};
 ghost use Rattle.schedule.specs.Schedule.{max_gap};
 ghost use Rattle.schedule.specs.WordLayout.{meant};
-ghost use Rattle.text.specs.Write.{marked, text_of};
-ghost use Rattle.text.specs.Private.{max_text};
+ghost use Rattle.text.specs.Write.{digits, marked, text_of};
 
 use crate::sign_byte;
+use ascii::output::Output;
 use schedule::WritableList;
-use std::marker::Model;
 
-// No list has a longer text (`at_most_752`).
-const MAX_TEXT: usize = 752;
-
-// The text of a list, as far as it is written.
-#[derive(Drop)]
-pub(crate) struct Text {
-    bytes: [u8; MAX_TEXT],
-    count: usize,
+// How many bytes a gap and its mark are.
+fn marked_len(gap: u32) -> usize
+    requires { gap ≤ max_gap }
+    ensures { result ≡ length (digits gap) + 1 }
+{
+    match gap {
+        0..=9 => 2,
+        10..=99 => 3,
+        _ => 4,
+    }
 }
 
-impl Model for Text {
-    ghost Value = { List ℕ };
-
-    ghost view = { λ t. take t.count t.bytes };
-
-    ghost invariant = { λ t. (t.count ≤ max_text) × (length t.bytes ≡ max_text) };
+// Puts a gap and its mark.
+fn put_marked(out: &mut Output<'_>, gap: u32, mark: u8)
+    requires { gap ≤ max_gap }
+    ensures { Puts out.old out.new (marked gap mark) }
+{
+    out.put_decimal(u64::from(gap));
+    out.put(mark);
 }
 
-impl Text {
-    // Nothing yet.
-    fn empty() -> Text
-        ensures { result ≡ [] }
-    {
-        Text {
-            bytes: [0; MAX_TEXT],
-            count: 0,
-        }
+// The length of the text of a list whose expiry is rounded down to a month.
+pub(crate) fn text_len(can: WritableList<'_>) -> usize
+    ensures { result ≡ length (text_of (meant can.entry.list.words.now)) }
+{
+    let list = can.list;
+    let mut len: usize = 0;
+    let mut last: u32 = 0;
+    for i in 0..list.count() {
+        let month = list.month(i);
+        len += marked_len(month - last);
+        last = month;
     }
+    len + marked_len(list.expiry_month() - last)
+}
 
-    // Writes a gap and its mark.
-    fn push(&mut self, gap: u32, mark: u8)
-        requires { (gap ≤ max_gap) × (length self.old + length (marked gap mark) ≤ max_text) }
-        ensures { self.new ≡ self.old ++ marked gap mark }
-    {
-        let at = self.count;
-        if gap < 10 {
-            self.bytes[at] = b'0' + gap as u8;
-            self.bytes[at + 1] = mark;
-            self.count = at + 2;
-        } else if gap < 100 {
-            self.bytes[at] = b'0' + (gap / 10) as u8;
-            self.bytes[at + 1] = b'0' + (gap % 10) as u8;
-            self.bytes[at + 2] = mark;
-            self.count = at + 3;
-        } else {
-            self.bytes[at] = b'0' + (gap / 100) as u8;
-            self.bytes[at + 1] = b'0' + (gap / 10 % 10) as u8;
-            self.bytes[at + 2] = b'0' + (gap % 10) as u8;
-            self.bytes[at + 3] = mark;
-            self.count = at + 4;
-        }
+// Puts the text of a list whose expiry is rounded down to a month.
+pub(crate) fn put_text(out: &mut Output<'_>, can: WritableList<'_>)
+    ensures { Puts out.old out.new (text_of (meant can.entry.list.words.now)) }
+{
+    let list = can.list;
+    let mut last: u32 = 0;
+    for i in 0..list.count() {
+        let month = list.month(i);
+        put_marked(out, month - last, sign_byte(list.sign(i)));
+        last = month;
     }
-
-    // The text of a list whose expiry is rounded down to a month.
-    pub(crate) fn of(can: WritableList<'_>) -> Text
-        ensures { result ≡ text_of (meant can.entry.list.words.now) }
-    {
-        let list = can.list;
-        let mut text = Text::empty();
-        let mut last: u32 = 0;
-        for i in 0..list.count() {
-            let month = list.month(i);
-            text.push(month - last, sign_byte(list.sign(i)));
-            last = month;
-        }
-        text.push(list.expiry_month() - last, b'?');
-        text
-    }
-
-    pub(crate) fn bytes(&self) -> &[u8]
-        ensures { result.now ≡ self.now }
-    {
-        &self.bytes[..self.count]
-    }
+    put_marked(out, list.expiry_month() - last, b'?');
 }

@@ -1,32 +1,30 @@
 -- `text::write_text` meets its contract: the refusal that every writer gives, or 7, or the list. Assumes nothing.
-use Rattle.std.proofs.Common.{rules}
+use Rattle.std.proofs.Common.{rules, arith}
 use mathlib.Core.Path.{ap, ◌∙◌}
 use mathlib.Core.List.{List}
-use Prim.Native.Nat.{ℕ}
+use Prim.Native.Nat.{ℕ, ◌≤◌}
 use lib.ListN.{length}
-use lib.Seq.{sets}
 use Rattle.schedule.specs.WordLayout.{meant}
 use Rattle.schedule.proofs.Answers as answers
 use Rattle.text.specs.Write.{text_of}
-use Rattle.text.proofs.Steps.{copied}
+use Rattle.text.proofs.Steps.{all_put}
 use Rattle.text.proofs.write_text.Goals as goal
 
-pub returns-in_err-writable : goal.returns-in_err-writable
-returns-in_err-writable c =
+pub returns-in_err-can : goal.returns-in_err-can
+returns-in_err-can c =
     let s = meant c.args.words.now in
-    let e = answers.refused s (text_of s) c.args.out.now c.args.words.now c.in_err-writable.ensures in
+    let e = answers.refused s (text_of s) c.args.out.now c.args.words.now c.in_err-can.ensures in
     search rules
 
-pub returns-then-out-count : goal.returns-then-out-count
-returns-then-out-count c =
-    let can = answers.writable_lem (meant c.args.words.now) c.in_ok-writable.ensures in
-    let its_text = c.bytes-bytes.ensures ∙ (c.of-text.ensures ∙ ap (λ (ws : List ℕ). text_of (meant ws)) can.2) in
-    answers.short _ _ _ can.0 can.1 _ (ap length its_text) c.if-out-count.true
+pub returns-then-out-text_len : goal.returns-then-out-text_len
+returns-then-out-text_len c =
+    let can = answers.writable_lem (meant c.args.words.now) c.in_ok-can.ensures in
+    answers.short _ _ _ can.0 can.1 _ (c.text_len.ensures ∙ ap (λ (ws : List ℕ). length (text_of (meant ws))) can.2) c.if-out-text_len.true
 
 pub returns : goal.returns
 returns c =
     let s = meant c.args.words.now in
-    let can = answers.writable_lem s c.in_ok-writable.ensures in
-    let its_text = c.bytes-bytes.ensures ∙ (c.of-text.ensures ∙ ap (λ (ws : List ℕ). text_of (meant ws)) can.2) in
-    rw c.copy_from_slice.ensures.after
-    (answers.taken s (text_of s) _ can.0 can.1 _ (ap length its_text) c.if-out-count.false _ (copied _ _ c.if-out-count.false ∙ ap (sets c.args.out.now 0) its_text))
+    let can = answers.writable_lem s c.in_ok-can.ensures in
+    let room : length (text_of s) ≤ length c.args.out.now = omega (arith, c.text_len.ensures, ap (λ (ws : List ℕ). length (text_of (meant ws))) can.2, c.if-out-text_len.false) in
+    let all = all_put c.new-output.result c.put_text.new.out (rw can.2 at c.put_text.ensures) c.new-output.ensures.at_start c.new-output.ensures.same_bytes (search rules) room in
+    answers.taken s (text_of s) _ can.0 can.1 _ all.0 (omega (arith, all.0, room)) _ all.1

@@ -1,10 +1,7 @@
--- `ascii::output::Output::put_all` meets its contract: there is room, or there is none. Assumes nothing.
-use mathlib.Core.Path.{refl}
-use Rattle.ascii.proofs.Putting.{some_fit, none_fit}
+-- `ascii::output::Output::put_all` meets its contract. Assumes nothing.
+use Rattle.ascii.proofs.Lists.{uncons}
+use Rattle.ascii.proofs.Putting.{step}
 use Rattle.ascii.proofs.output.Output.put_all.Goals as goal
 
-pub returns-then-self : goal.returns-then-self
-returns-then-self c = some_fit refl refl c.if-self.true c.min-n.ensures c.copy_from_slice.ensures.after refl refl
-
-pub returns-else-self : goal.returns-else-self
-returns-else-self c = none_fit _ _ c.if-self.false
+pub loop-b-preserved : goal.loop-b-preserved
+loop-b-preserved c = step c.loop-b.invariant c.put.ensures (uncons _ _ c.loop-b-test.true)
