@@ -2,8 +2,7 @@
 ghost use Rattle.std.specs.Prelude.{◌≡◌, [], ◌∷◌};
 ghost use Rattle.ascii.specs.Output.{Puts};
 
-// Bytes that are filled from their start, the place of the next one, which is never past the end, and whether LF stands between the lines of
-// what is put, or `; `.
+// Bytes that are filled from their start, the place of the next one, and whether LF stands between the lines of what is put, or `; `.
 #[derive(Drop)]
 pub struct Output<'a> {
     pub bytes: &'a mut [u8],

@@ -301,9 +301,9 @@ module _ (s : Schedule) (bytes out : List ℕ) where
 
   -- accepting, they return number 0 and the byte count, and bytes beyond it keep what they held
   pub writer_0 : well_formed s ≡ true → leaves_gap s ≡ true → length bytes ≤ length out
-      → (writing s bytes (length out) ≡ given (length bytes)) × (written s bytes out ≡ bytes ++ drop (length bytes) out)
+      → (writing s bytes (length out) ≡ given (length bytes)) × (number (writing s bytes (length out)) ≡ 0) × (written s bytes out ≡ bytes ++ drop (length bytes) out)
   unfolding written fitted
-  writer_0 w g h = let room = le-leb (length bytes) (length out) h in (rw (w, g, room), rw (w, g, room))
+  writer_0 w g h = let room = le-leb (length bytes) (length out) h in (rw (w, g, room), rw (w, g, room), rw (w, g, room))
 
 pub no_gap_left : (s : Schedule) → well_formed s ≡ true → (leaves_gap s ≡ false) ↔ (month_of s.expiry ≡ last_leap 0 s.leaps)
 no_gap_left s w = schedule.no_gap_exactly s w

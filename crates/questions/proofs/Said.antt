@@ -139,9 +139,9 @@ pub early_micros_said : {s : Schedule} {said : Answer ℕ} → ListFor s said �
 early_micros_said (list_said f) day u h = early_micros_of_list f day u h
 early_micros_said (no_list w) day u h = sym (stop _ not_well_formed w)
 
-pub utc_said : {s : Schedule} {near last : ℕ} {said : Answer Day} (x : ℕ) → DayFor s near said → last ≡ last_day s → near ≡ near_day x last → utc_by said near x ≡ tai_to_utc s x
-utc_said x (day_said f) e m = utc_of_day x f e m
-utc_said x (no_day w) e m = sym (stop _ not_well_formed w)
+pub utc_said : {s : Schedule} {near : ℕ} {said : Answer Day} (x : ℕ) → DayFor s near said → (well_formed s ≡ true → near ≡ near_day x (last_day s)) → utc_by said near x ≡ tai_to_utc s x
+utc_said x (day_said f) m = utc_of_day x f refl (m f.list.well)
+utc_said x (no_day w) m = sym (stop _ not_well_formed w)
 
 -- ---- what words say
 

@@ -31,10 +31,9 @@ pub trait Responder {
     fn most() -> usize
         ensures { result ≡ answering.most };
 
-    // Puts the answer to a line, which is one line or none.
+    // Puts the answer to a line where `; ` stands between lines: one line or none.
     fn respond(&mut self, line: &[u8], out: &mut Output)
-        requires { out.old.lines ≡ false }
-        ensures puts { PutsUpTo answering.most out.old out.new (answering.prints (state self.old) line.now) }
+        ensures puts { out.old.lines ≡ false → PutsUpTo answering.most out.old out.new (answering.prints (state self.old) line.now) }
         ensures next { state self.new ≡ answering.next (state self.old) line.now }
         ensures same_lent { lent self.new ≡ lent self.old };
 }

@@ -14,13 +14,15 @@ loop-out-init g c = record {
 }
 
 pub loop-out-preserved : goal.loop-out-preserved
-loop-out-preserved g c = record {
-  empty = c.loop-out.invariant.empty;
-  one_line = c.respond.ensures.puts.puts.same_lines ∙ c.loop-out.invariant.one_line;
-  same_buffer = c.respond.ensures.puts.puts.same_buffer ∙ c.loop-out.invariant.same_buffer;
-  same_lent = c.respond.ensures.same_lent ∙ c.loop-out.invariant.same_lent;
-  going = step _ c.loop-out.invariant.empty c.loop-out.invariant.going c.in-Some.ensures (omega arith) c.respond.ensures.puts c.respond.ensures.next;
-}
+loop-out-preserved g c =
+    let answer = c.respond.ensures.puts c.loop-out.invariant.one_line in
+    record {
+      empty = c.loop-out.invariant.empty;
+      one_line = answer.puts.same_lines ∙ c.loop-out.invariant.one_line;
+      same_buffer = answer.puts.same_buffer ∙ c.loop-out.invariant.same_buffer;
+      same_lent = c.respond.ensures.same_lent ∙ c.loop-out.invariant.same_lent;
+      going = step _ c.loop-out.invariant.empty c.loop-out.invariant.going c.in-Some.ensures (omega arith) answer c.respond.ensures.next;
+    }
 
 pub returns-clause-answers : goal.returns-clause-answers
 returns-clause-answers g c =

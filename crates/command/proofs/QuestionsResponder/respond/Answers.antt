@@ -6,4 +6,4 @@ use Rattle.command.proofs.QuestionsResponder.respond.Goals as goal
 
 pub returns-clause-puts : goal.returns-clause-puts
 unfolding answer_line
-returns-clause-puts c = up_to c.put_answer.ensures (a_byte c.put.ensures) (rw c.requires) (omega arith)
+returns-clause-puts c = λ e. up_to c.put_answer.ensures (a_byte c.put.ensures) (rw e) (omega arith)

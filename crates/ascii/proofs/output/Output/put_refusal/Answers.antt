@@ -1,9 +1,0 @@
--- `ascii::refusal`'s `put_refusal` meets its contract. Assumes nothing.
-use native.Mathlib.Omega.{arith}
-use Rattle.ascii.specs.Refusal.{refusal}
-use Rattle.ascii.proofs.Putting.{up_to, a_byte}
-use Rattle.ascii.proofs.output.Output.put_refusal.Goals as goal
-
-pub returns : goal.returns
-unfolding refusal
-returns c = up_to (a_byte c.put.ensures) c.put_decimal.ensures (rw (c.from.ensures, c.number.ensures)) (omega arith)
