@@ -1,7 +1,9 @@
 -- How a loop puts the words after the leaps together, by "or".
 -- Assumes nothing.
-use Rattle.std.proofs.Common.{◌≡◌, ℕ, ◌+◌, ◌<◌, ◌≤◌, List, length, get_or, take, drop, refl, ap₂, ⊎_elim, eq-or-lt_of_le, arith, length-take, get_or-drop, get_or-take}
+use Rattle.std.proofs.Common.{◌≡◌, ℕ, ◌+◌, ◌*◌, ◌<◌, ◌≤◌, eqb, List, length, get_or, take, drop, refl, ap₂, ⊎_elim, eq-or-lt_of_le, arith, eqb-true, length-take, get_or-drop, get_or-take}
 use lib.Bits.{bit_or, or_add_and, and_le_l, and_le_r}
+use borrow.Author.Tests.{eqb-false}
+use Rattle.schedule.specs.Private.{RestClear}
 
 -- the words from one place up to another are 0
 abbrev Zeros : List ℕ → ℕ → ℕ → Type 0
@@ -38,3 +40,7 @@ together_next {words} {from} {i} {rest} room h p =
     let z : from + i + 1 ≡ from + (i + 1) = omega arith in
     let small : i < room = omega (arith, length-take room (drop from words)) in
     rw (get_or-take room (drop from words) i 0 small, get_or-drop from words i 0, ← z) (together_one p)
+
+-- so the words after the leaps, put together, tell whether the rest is clear
+pub together_tells : (words : List ℕ) (count rest : ℕ) → Together words (2 * count) 512 rest → RestClear words count (eqb rest 0)
+together_tells words count rest p = record { all = λ t. p.all (eqb-true rest 0 t); none = λ f z. eqb-false rest 0 f (p.none z) }
