@@ -14,8 +14,9 @@ ok "the month table is what its generator prints"
 python3 tools/refusals.py --check || fail "the refusals are not everywhere as tools/refusals.txt has them"
 ok "the refusals are everywhere as their table has them"
 
-# every public function of a library has an `ensures` and no `requires`. Of the functions in these files, which write to standard output, no contract
-# could say what they do: they have none, and no `requires`. Nor of what says on standard error why a write failed
+# every public function of a library, and every method of its public traits, has an `ensures` and no `requires`. Of the functions in these files,
+# which write to standard output, no contract could say what they do: they have none, and no `requires`. Nor of what says on standard error why a
+# write failed
 effects="crates/shell/src/help.rt crates/shell/src/output.rt"
 for crate in $crates; do
     [ -f "crates/$crate/src/lib.rt" ] || continue
@@ -23,16 +24,19 @@ for crate in $crates; do
         case " $effects " in *" $file "*) said=1 ;; *) said=0 ;; esac
         bad=$(awk -v said="$said" '
             /^[ \t]*\/\// { next }
-            /^[ \t]*pub (extern "C" )?fn / { name = $0; ensures = said; open = 1 }
+            /^[ \t]*pub trait / { trait = 1 }
+            /^\}/ { trait = 0 }
+            /^[ \t]*pub (extern "C" )?fn / || (trait && /^[ \t]*fn /) { name = $0; ensures = said; open = 1 }
             open && /requires/ { print "a public function with a requires: " name; open = 0 }
             open && /ensures/ { ensures = 1 }
+            open && trait && /;[ \t]*$/ { if (!ensures) print "a method of a public trait without an ensures: " name; open = 0 }
             open && /^[ \t]*\{[ \t]*$/ { if (!ensures) print "a public function without an ensures: " name; open = 0 }
             open && /\{[ \t]*$/ && !/ensures|requires/ { if (!ensures) print "a public function without an ensures: " name; open = 0 }
         ' "$file")
         [ -z "$bad" ] || fail "$file: $bad"
     done
 done
-ok "every public function of a library has an ensures, but for those that write to standard output, and no requires"
+ok "every public function and trait method of a library has an ensures, but for those that write to standard output, and no requires"
 
 # no contract says how a month is found. By the text of the code: from an estimate, with no table, no loop and no function that calls itself
 code=$(sed 's|//.*||' crates/calendar/src/lib.rt)
