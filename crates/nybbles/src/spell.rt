@@ -89,10 +89,9 @@ impl Spelling {
         let list = can.list;
         let mut spelling = Spelling::empty();
         let mut last: u32 = 0;
-        for i in 0..list.count() {
-            let month = list.month(i);
-            spelling.push_gap(Mark::Leaps(list.sign(i)), month - last);
-            last = month;
+        for leap in list.leaps() {
+            spelling.push_gap(Mark::Leaps(leap.sign), leap.month - last);
+            last = leap.month;
         }
         spelling.push_gap(Mark::Expires, list.expiry_month() - last);
         spelling

@@ -1,6 +1,6 @@
 -- A list as the writers spell it, in months: the expiry is rounded down to its month, and every gap is 1 to 999.
 -- Assumes nothing.
-use Rattle.std.proofs.Common.{◌≡◌, ℕ, suc, ◌+◌, ◌-◌, ◌<◌, ◌≤◌, Bool, true, ◌&&◌, List, [], ◌∷◌, length, get_or, drop, refl, ap, ◌∙◌, arith, drop_of_length-le, ltb-true, lt-ltb, le-leb}
+use Rattle.std.proofs.Common.{◌≡◌, ℕ, suc, ◌+◌, ◌-◌, ◌<◌, ◌≤◌, Bool, true, ◌&&◌, List, [], ◌∷◌, length, get_or, refl, ap, ◌∙◌, arith, ltb-true, lt-ltb, le-leb}
 use mathlib.Core.Bool.{and-eq-true_iff}
 use native.Mathlib.Decide.{dec_lt}
 use Rattle.calendar.specs.Calendar.{first_day, end_day, month_start, month_of, starts_month}
@@ -51,11 +51,6 @@ last_before (l ∷ ls) from expiry f = last_before ls l.month expiry (later from
 -- where rounding leaves a gap, all gaps of a well-formed schedule are 1 to 999 months
 pub rounded_gaps : (s : Schedule) → well_formed s ≡ true → leaves_gap s ≡ true → gaps_to 0 s.leaps (month_of s.expiry) ≡ true
 rounded_gaps s w g = rounded_fits s.leaps 0 s.expiry (parts s w).gaps (ltb-true (last_leap 0 s.leaps) (month_of s.expiry) g)
-
--- the last gap of what is left
-pub last_to : (s : Schedule) (i from end : ℕ) → length s.leaps ≤ i → gaps_to from (drop i s.leaps) end ≡ gap_fits from end
-unfolding gaps_to
-last_to s i from end h = rw (drop_of_length-le s.leaps h)
 
 -- such a list expires on the first day of its last month
 to_days : (ls : List Leap) (from end : ℕ) → gaps_to from ls end ≡ true → gaps_fit from ls (month_start end) ≡ true

@@ -37,10 +37,9 @@ pub(crate) fn text_len(can: WritableList<'_>) -> usize
     let list = can.list;
     let mut len: usize = 0;
     let mut last: u32 = 0;
-    for i in 0..list.count() {
-        let month = list.month(i);
-        len += marked_len(month - last);
-        last = month;
+    for leap in list.leaps() {
+        len += marked_len(leap.month - last);
+        last = leap.month;
     }
     len + marked_len(list.expiry_month() - last)
 }
@@ -51,10 +50,9 @@ pub(crate) fn put_text(out: &mut Output<'_>, can: WritableList<'_>)
 {
     let list = can.list;
     let mut last: u32 = 0;
-    for i in 0..list.count() {
-        let month = list.month(i);
-        put_marked(out, month - last, sign_byte(list.sign(i)));
-        last = month;
+    for leap in list.leaps() {
+        put_marked(out, leap.month - last, sign_byte(leap.sign));
+        last = leap.month;
     }
     put_marked(out, list.expiry_month() - last, b'?');
 }

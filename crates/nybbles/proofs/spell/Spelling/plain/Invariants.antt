@@ -1,6 +1,7 @@
 use Rattle.schedule.specs.WordLayout.{meant}
-use Rattle.nybbles.proofs.Filled as filled
+use Rattle.schedule.specs.Left.{left}
+use Rattle.nybbles.proofs.Filled.{Fills}
 use Rattle.nybbles.proofs.spell.Spelling.plain.Given as goal
 
-abbrev pub invariant-loop-i : goal.invariant-loop-i
-invariant-loop-i l = filled.Fills (meant l.list.words.now) l.spelling l.last l.i
+abbrev pub invariant-loop-leap : goal.invariant-loop-leap
+invariant-loop-leap l = Fills (meant l.list.words.now) l.spelling l.last (left l.leap-iterator)
