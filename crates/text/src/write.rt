@@ -21,12 +21,20 @@ fn marked_len(gap: u32) -> usize
     }
 }
 
-// Puts a gap and its mark.
+// Puts a gap and its mark. By cases, since a gap has three digits at the most.
 fn put_marked(out: &mut Output<'_>, gap: u32, mark: u8)
     requires { gap ≤ max_gap }
     ensures { Puts out.old out.new (marked gap mark) }
 {
-    out.put_decimal(u64::from(gap));
+    let n = u64::from(gap);
+    match gap {
+        0..=9 => out.put(b'0' + gap as u8),
+        10..=99 => out.put_pair(n),
+        _ => {
+            out.put(b'0' + (gap / 100) as u8);
+            out.put_pair(n);
+        }
+    }
     out.put(mark);
 }
 
