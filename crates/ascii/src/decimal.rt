@@ -21,7 +21,7 @@ impl Output<'_> {
         self.put_both(digit(n / 10 % 10), digit(n % 10));
     }
 
-    // Puts a number, with no leading zero. By two digits at a time, since calls and divisions take longer than digits.
+    // Puts a number, with no leading zero. By four digits at a time, since calls and divisions take longer than digits.
     pub fn put_decimal(&mut self, n: u64)
         ensures { PutsUpTo 20 self.old self.new (decimal n) }
     {
@@ -29,8 +29,12 @@ impl Output<'_> {
             self.put(digit(n));
         } else if n < 100 {
             self.put_pair(n);
-        } else {
+        } else if n < 10_000 {
             self.put_decimal(n / 100);
+            self.put_pair(n);
+        } else {
+            self.put_decimal(n / 10_000);
+            self.put_pair(n / 100);
             self.put_pair(n);
         }
     }
