@@ -12,9 +12,6 @@ use Rattle.many.proofs.answer_each.Goals as goal
 pub prepare-requires : goal.prepare-requires
 prepare-requires g c = all_clear
 
-pub fill-requires-clause-callable : goal.fill-requires-clause-callable
-fill-requires-clause-callable g c i h = c.requires.callable _ i h
-
 pub returns : goal.returns
 returns g c answers a =
     let words = c.args.words.now in

@@ -16,18 +16,11 @@ code_at-c-requires c =
 pub returns-in-Err : goal.returns-in-Err
 returns-in-Err c = reading.refuses _ _ _ _ c.loop-at.invariant _ c.code_at-c.ensures _ c.in-Err.ensures c.refuse.ensures
 
-pub after-p-requires : goal.after-p-requires
-after-p-requires c = reading.passed _ _ _ _ c.loop-at.invariant _ c.code_at-c.ensures c.in_default.ensures
-
 -- a nybble after the expiry
 pub returns-then-at-bytes : goal.returns-then-at-bytes
 returns-then-at-bytes c =
     reading.refuses_more _ _ _ _ c.loop-at.invariant _ c.code_at-c.ensures c.in_default.ensures _ _ c.after-p.ensures c.in-Expires.is
     (omega (arith, codes.count c.args.bytes.now, c.if-at-bytes.true)) c.refuse-then-at-bytes.ensures
-
-pub overflow_cast-out : goal.overflow_cast-out
-overflow_cast-out c =
-    omega (arith, reading.few_after _ _ _ _ c.loop-at.invariant _ c.code_at-c.ensures c.in_default.ensures _ _ c.after-p.ensures c.in-Expires.is)
 
 -- the expiry and no nybble after it
 pub returns-in-Expires : goal.returns-in-Expires

@@ -12,14 +12,11 @@ use Rattle.schedule.specs.Schedule.{well_formed}
 use Rattle.schedule.proofs.Gaps.{parts}
 use Rattle.schedule.proofs.Meant.{count_is, month_word_lem}
 use Rattle.schedule.proofs.WordLayout.{small_month}
-use Rattle.many.proofs.Preparing.{starting_none, starting_one, starting_all}
+use Rattle.many.proofs.Preparing.{starting_one}
 use Rattle.many.proofs.stretches.lay_starts.Goals as goal
 
 month_meant : (words : List ℕ) (w : well_formed (meant words) ≡ true) (i : ℕ) → i < count_word words → get_or words (2 * i) 0 ≤ last_month
 month_meant words w i h = omega (arith, month_word_lem words w i h, small_month (meant words) w i)
-
-pub loop-i-init : goal.loop-i-init
-loop-i-init c = starting_none (meant c.args.list.words.now) c.args.prepared.now c.requires.1
 
 pub overflow_cast-month : goal.overflow_cast-month
 overflow_cast-month c =
@@ -40,6 +37,3 @@ loop-i-preserved c =
     let h : c.loop-i.i < length (meant words).leaps = omega (arith, c.loop-i-test.true, c.count-i-end.ensures) in
     starting_one c.requires.0 (parts (meant words) w).room c.loop-i.invariant h c.first_day.result
     (c.first_day.ensures ∙ start_min (month_meant words w c.loop-i.i (omega (arith, h, count_is words w))) ∙ ap month_start (month_word_lem words w c.loop-i.i (omega (arith, h, count_is words w))))
-
-pub returns : goal.returns
-returns c = starting_all c.loop-i.invariant (omega (arith, c.loop-i-test.false, c.count-i-end.ensures))

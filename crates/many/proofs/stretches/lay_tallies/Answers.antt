@@ -4,11 +4,8 @@ use native.Mathlib.Omega.{arith}
 use Rattle.schedule.specs.WordLayout.{count_word, meant}
 use Rattle.schedule.proofs.Gaps.{parts}
 use Rattle.schedule.proofs.Meant.{count_is, count_room, sign_word, sign_fits}
-use Rattle.many.proofs.Preparing.{tallying_none, tallying_one, tallying_all}
+use Rattle.many.proofs.Preparing.{tallying_one}
 use Rattle.many.proofs.stretches.lay_tallies.Goals as goal
-
-pub loop-i-init : goal.loop-i-init
-loop-i-init c = tallying_none (meant c.args.list.words.now) c.args.prepared.now c.requires.1
 
 pub overflow_add-down-in-loop-i : goal.overflow_add-down-in-loop-i
 overflow_add-down-in-loop-i c =
@@ -30,6 +27,3 @@ loop-i-preserved c =
     let w = c.args.list.formed in
     let k : c.loop-i.i < count_word words = omega (arith, count_is words w, c.loop-i-test.true, c.count-i-end.ensures) in
     tallying_one c.requires.0 (parts (meant words) w).room c.loop-i.invariant (omega (arith, k, count_is words w)) _ (sign_word words w c.loop-i.i k) (sign_fits words w c.loop-i.i k)
-
-pub returns : goal.returns
-returns c = tallying_all c.loop-i.invariant (omega (arith, c.loop-i-test.false, c.count-i-end.ensures))

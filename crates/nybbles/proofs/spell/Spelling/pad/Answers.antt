@@ -14,9 +14,6 @@ loop-i-preserved c =
     let inv = c.self.invariant in
     evened.pads_step _ _ _ _ _ _ _ c.loop-i.invariant (omega (arith, inv.0, inv.1)) (omega arith, omega arith) _ c.in_default.is
 
-pub invariant_of-self : goal.invariant_of-self
-invariant_of-self c = rw (c.loop-i.invariant.same, c.loop-i.invariant.same_count, c.loop-i.invariant.same_nybbles) c.self.invariant
-
 pub overflow_add-self : goal.overflow_add-self
 overflow_add-self c =
     let inv = c.self.invariant in
