@@ -25,7 +25,7 @@ const MOST_DTAI: u64 = 266_000_000;
 
 // What a list says of a day: how many seconds its leaps have added by then and how many they have taken away, how the day ends, and Z, the last day
 // before expiry.
-#[derive(Clone, Copy)]
+#[derive(Clone, Copy, Debug, PartialEq, Eq)]
 pub struct Day {
     pub up: u16,
     pub down: u16,

@@ -12,10 +12,7 @@ pub(crate) fn misfit(from: u32, to: u32) -> u32
     ensures { (from < great_month → (result == 0) ≡ gap_fits from to) × (result ≤ 1) }
 {
     let gap = std::num::wrapping_sub_u32(to, from);
-    if std::num::wrapping_sub_u32(gap, 1) < MAX_GAP {
-        return 0;
-    }
-    1
+    u32::from(MAX_GAP <= std::num::wrapping_sub_u32(gap, 1))
 }
 
 // Whether an expiry day within the calendar is later than the first day of a month, and at most 999 months after it by month number. In most lists
@@ -47,10 +44,7 @@ pub(crate) fn expiry_fits(from: u32, expiry: u32) -> bool
 fn unsigned(negative: u32) -> u32
     ensures { ((result == 0) ≡ nat_lt negative 2) × (result ≤ 1) }
 {
-    if negative < 2 {
-        return 0;
-    }
-    1
+    u32::from(1 < negative)
 }
 
 // Whether the gaps are 1 to 999 months, from month 0 over the leaps in use, the expiry fits the last, and the sign words are 0 or 1.

@@ -60,11 +60,10 @@ impl From<ParseError> for Refusal {
     }
 }
 
-impl Sign {
-    // The sign of a word.
-    pub fn of(word: u32) -> Sign
-        ensures { result ≡ sign_of word }
-    {
+impl From<u32> for Sign {
+    ghost from_gives = { λ word sign. sign ≡ sign_of word };
+
+    fn from(word: u32) -> Sign {
         if word == 0 {
             Sign::Positive
         } else {
@@ -108,7 +107,7 @@ pub fn sign_at(words: &[u32; 514], i: usize) -> Sign
     if MAX_LEAPS <= i {
         return Sign::Positive;
     }
-    Sign::of(words[2 * i + 1])
+    Sign::from(words[2 * i + 1])
 }
 
 // The day on which the list expires.

@@ -8,4 +8,4 @@ pub returns-then-i-ge-MAX_LEAPS : goal.returns-then-i-ge-MAX_LEAPS
 returns-then-i-ge-MAX_LEAPS c = sym (ap sign_of (sign_past c.args.words.now c.args.i c.if-i-ge-MAX_LEAPS.true))
 
 pub returns : goal.returns
-returns c = c.of.ensures ∙ ap sign_of (sym (sign_in_place c.args.words.now c.args.i (omega (arith, c.if-i-ge-MAX_LEAPS.false))))
+returns c = c.from.ensures ∙ ap sign_of (sym (sign_in_place c.args.words.now c.args.i (omega (arith, c.if-i-ge-MAX_LEAPS.false))))
