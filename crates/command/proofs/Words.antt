@@ -5,8 +5,8 @@ use mathlib.Core.Path.{◌≡◌, refl}
 use mathlib.Core.Bool.{Bool, true, false}
 use mathlib.Core.List.{List, [], ◌∷◌}
 use Prim.Native.Nat.{ℕ}
-use Rattle.ascii.specs.Ascii.{ascii}
-use Rattle.ascii.specs.Decimal.{number_of}
+use Rattle.ascii.specs.Ascii.{ascii, within}
+use Rattle.ascii.specs.Decimal.{all_digits, value_after, number_of}
 use Rattle.std.specs.Prelude.{Some, None}
 use Rattle.ascii.specs.Hex.{is_hex, unhex}
 use Rattle.ascii.specs.Parts.{same}
@@ -139,3 +139,8 @@ too_many lines x y z more = (refl, refl)
 pub no_number : (lines : Bool) (list x : List ℕ) → number_of x ≡ None → answer_for lines Utc (list ∷ x ∷ []) ≡ expected (Some Utc)
 unfolding form_of answer_for
 no_number lines list x e = simp e
+
+-- the largest number is 2^64 - 1; one more is no number
+pub largest_number : (number_of (ascii "18446744073709551615") ≡ Some 18_446_744_073_709_551_615) × (number_of (ascii "18446744073709551616") ≡ None)
+unfolding number_of all_digits within value_after
+largest_number = (refl, refl)

@@ -54,6 +54,8 @@ table =
     -- of a list alone, the number and the place
     ∷ answers true "show 5?7" "!6 2"
     ∷ answers true "nybbles 06+5?" "!3 0"
+    -- a number without a plus
+    ∷ answers true "dtai 6+5? 41499" "11"
     -- two lists, and no more
     ∷ answers true "compare 5?" "? expected: compare LIST LIST"
     ∷ answers true "longer 5? 5? 5?" "? expected: longer LIST LIST"
@@ -62,4 +64,4 @@ table =
 -- every row of the table holds of the definitions
 pub worked : SayAll table
 unfolding month_start days_in_month month_lengths is_leap_year answer_to parts word_of same usage expected form_of answer_for of_list of_hex of_pair list_of longer_by refusal read_text read_from by_reading joined lines_of month_lines line_at has_leap leap_mark is_expired expiry_lines relation_by between decimal digits_in below same_leaps chosen_of within all_digits value_after number_of hex nybble_of all_hex_digits unhex refusal_at month_of starts_month month_at greatest gaps_fit last_leap digits text_from text_of nybbles single wide codes_of fault after read_codes read_nybbles dtai tai_with tai fully_known known_to tai_end uts asked_of asked_under date date_of stretch stretches shown
-worked = (refl, (refl, (refl, (refl, (refl, (refl, (refl, (refl, (refl, (refl, (refl, (refl, (refl, tt)))))))))))))
+worked = (refl, (refl, (refl, (refl, (refl, (refl, (refl, (refl, (refl, (refl, (refl, (refl, (refl, (refl, tt))))))))))))))
