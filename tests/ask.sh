@@ -40,6 +40,8 @@ mkdir "$built/links"
 ln -s "$root/leapsec" "$built/links/first"
 ln -s first "$built/links/second"
 [ "$(cd / && "$built/links/second" text F4)" = '5?' ] || fail "./leapsec through a link, from another folder"
+# rt ci takes no links
+rm -r "$built/links"
 ok "./leapsec runs from any folder, and through links"
 touch -d 2000-01-01 "$LEAPSEC"
 [ "$(echo text F4 | ./leapsec ask 2>"$log")" = '5?' ] || fail "./leapsec does not build the program, or takes its input"
