@@ -48,12 +48,15 @@ impl<'a> Output<'a> {
         }
     }
 
-    // Puts bytes.
+    // Puts bytes. They go through an output of its own, whose place the compiler need not store at every byte.
     pub fn put_all(&mut self, bytes: &[u8])
         ensures { Puts self.old self.new bytes.now }
     {
+        let mut out = Output::new(&mut *self.bytes, self.lines);
+        out.at = self.at;
         for b in bytes {
-            self.put(*b);
+            out.put(*b);
         }
+        self.at = out.at;
     }
 }

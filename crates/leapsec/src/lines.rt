@@ -131,6 +131,8 @@ fn answer_some<A: Answers>(rt: &HostRuntime, answers: &mut A, input: &[u8]) -> O
 
 // Answers the lines of standard input to its end. A proved loop has to end, and nothing says that an input does: so the turns are counted, up to a
 // number that no run comes to.
+// It is compiled by itself, so that its buffer takes no stack where a single question is answered.
+#[inline(never)]
 pub(crate) fn answer<A: Answers + Drop>(rt: &HostRuntime, mut answers: A) {
     let mut buffer = io::large_buffer();
     let mut input = Input {

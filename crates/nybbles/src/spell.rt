@@ -15,12 +15,13 @@ use std::marker::Model;
 // No list has more written codes: a gap of g months has at most (g + 15) / 16 of them, and there are at most 257 gaps, of 2400 months.
 const MAX_CODES: usize = 390;
 
-// Written codes: how many there are, and how many nybbles they have.
+// Written codes: how many nybbles they have, and how many there are. The two numbers stand apart, since the compiler would else add to both at once,
+// and each code would wait for both.
 #[derive(Drop)]
 pub(crate) struct Spelling {
+    nybbles: usize,
     codes: [WrittenCode; MAX_CODES],
     count: usize,
-    nybbles: usize,
 }
 
 impl Model for Spelling {
@@ -37,9 +38,9 @@ impl Spelling {
         ensures { result ≡ [] }
     {
         Spelling {
+            nybbles: 0,
             codes: [WrittenCode::Single(0); MAX_CODES],
             count: 0,
-            nybbles: 0,
         }
     }
 

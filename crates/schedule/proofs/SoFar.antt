@@ -8,7 +8,7 @@ use Rattle.refusals.specs.Refusals.{number_of}
 use Rattle.schedule.specs.declared.Sign.{Sign}
 use Rattle.schedule.specs.Schedule.{Leap, Schedule, blank_schedule}
 use Rattle.schedule.specs.WordLayout.{word_of_sign, leap_words, zeroes, words_of}
-use Rattle.schedule.specs.Answers.{refusal, accepted, with_leap, ReadsInto}
+use Rattle.schedule.specs.Answers.{refusal, accepted, with_leap, ReadsInto, HandsReading}
 use Rattle.schedule.specs.Private.{SoFar}
 use Rattle.schedule.proofs.WordLayout.{words_length}
 
@@ -78,3 +78,8 @@ module _ (s : Schedule) (n : ℕ) (words : List ℕ) (k : SoFar s n words) where
 pub so_far_refused : (r : Refusal) (place : ℕ) → ReadsInto (refusal (number_of r) place) (Err (record { refusal = r; place = place })) (zeroes 514)
 unfolding words_of leap_words
 so_far_refused r place = record { its_number = refl; its_words = refl; its_place = refl }
+
+-- the same of a refusal by its number, where number and place are handed over
+pub so_far_refusal : (number place : ℕ) → HandsReading (refusal number place) number (zeroes 514) place
+unfolding words_of leap_words
+so_far_refusal number place = record { its_number = refl; its_words = refl; its_place = refl }

@@ -7,7 +7,7 @@ ghost use Rattle.refusals.specs.Refusals.{number_of};
 ghost use Rattle.schedule.specs.Schedule.{last_month, month_start, month_of, is_expired, well_formed};
 ghost use Rattle.schedule.specs.Extends.{extends};
 ghost use Rattle.schedule.specs.WordLayout.{count_word, expiry_word, month_word, sign_word, sign_of, meant, word_of_sign};
-ghost use Rattle.schedule.specs.Answers.{refusal, ReadsInto};
+ghost use Rattle.schedule.specs.Answers.{refusal, ReadsInto, HandsReading};
 
 mod check; // check.rt: the faults of words that are not those of a well-formed schedule
 pub mod leaps; // leaps.rt: the leaps of a list, one after the other
@@ -126,6 +126,15 @@ pub fn refuse(why: Refusal, place: usize, out: &mut [u32; 514]) -> Result<(), Pa
         refusal: why,
         place,
     })
+}
+
+// A reader's refusal handed over, by any number: the number, the place and the words of the blank schedule.
+pub fn hand_refusal(number: u8, at: usize, out: &mut [u32; 514], place: &mut u64) -> u8
+    ensures { HandsReading (refusal number at) result out.new place.new }
+{
+    *out = [0; 514];
+    *place = at as u64;
+    number
 }
 
 // Whether words are those of a well-formed schedule; any words at all may be given.

@@ -20,9 +20,11 @@ from_short (l ∷ ls) from expiry =
     let i = from_short ls l.month expiry in
     simp length-append (omega arith)
 
+-- and a text has one for each leap, and one for the expiry
+pub four_each : (s : Schedule) → length (text_of s) ≤ 4 * length s.leaps + 4
+unfolding text_of
+four_each s = from_short s.leaps 0 (expiry_month s)
+
 -- the text of a well-formed schedule has at most 1,028 bytes
 pub at_most : (s : Schedule) → well_formed s ≡ true → length (text_of s) ≤ 1028
-unfolding text_of
-at_most s w =
-    let i = from_short s.leaps 0 (expiry_month s) in
-    omega (arith, (parts s w).room)
+at_most s w = omega (arith, four_each s, (parts s w).room)

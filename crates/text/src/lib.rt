@@ -19,6 +19,9 @@ use refusals::Refusal;
 use schedule::{ParseError, Sign};
 use write::{put_text, text_len};
 
+// No list has a longer text.
+const MAX_TEXT: usize = 752;
+
 #[derive(Clone, Copy)]
 struct Cursor {
     pub at: usize,
@@ -197,7 +200,9 @@ pub fn write_text(words: &[u32; 514], out: &mut [u8]) -> Result<usize, Refusal>
     ensures { (answer_of result ≡ writing (meant words.now) (text_of (meant words.now)) (length out.old)) × (out.new ≡ written (meant words.now) (text_of (meant words.now)) out.old) }
 {
     let can = schedule::writable(words)?;
-    if out.len() < text_len(can) {
+    // A gap and its mark are at most four bytes. A list is measured only where that, or the longest list, does not fit.
+    let most = (4 * can.list.count() + 4).min(MAX_TEXT);
+    if out.len() < most && out.len() < text_len(can) {
         return Err(Refusal::OutputShort);
     }
     let mut output = Output::new(out, true);

@@ -3,4 +3,4 @@ use Rattle.ascii.proofs.Putting.{Left}
 use Rattle.ascii.proofs.output.Output.put_all.Given as goal
 
 abbrev pub invariant-loop-b : goal.invariant-loop-b
-invariant-loop-b l = Left l.initial.self l.self l.bytes (drop l.b-index l.bytes)
+invariant-loop-b l = Left l.initial.out l.out l.bytes (drop l.b-index l.bytes)
