@@ -15,8 +15,8 @@ use std::marker::Model;
 // No list has more written codes: a gap of g months has at most (g + 15) / 16 of them, and there are at most 257 gaps, of 2400 months.
 const MAX_CODES: usize = 390;
 
-// Written codes: how many nybbles they have, and how many there are. The two numbers stand apart, since the compiler would else add to both at once,
-// and each code would wait for both.
+// Written codes: how many nybbles they have, and how many there are. The two numbers stand apart, since the compiler would otherwise add to both at
+// once, and each code would wait for both.
 #[derive(Drop)]
 pub(crate) struct Spelling {
     nybbles: usize,
